@@ -1,0 +1,4 @@
+-- The laws of the curve layer, for its own proofs and for the layers above; that each public function's promise allows one answer; the worked rows.
+pub mod Laws
+pub mod One
+pub mod WorkedRows

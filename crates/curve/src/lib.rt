@@ -1,0 +1,37 @@
+// Arithmetic on service curves: what a curve has reached, whether curves fit the link, the earliest
+// tick at which an amount is reached, and the pieces that are worth keeping. It knows nothing of
+// classes, packets or files.
+ghost use mathlib.Core.Path.{_≡_};
+ghost use Prim.Native.Nat.{ℕ, _≤_};
+ghost use Rattle.curve.specs.Answers.{Least, Exactly};
+ghost use Rattle.curve.specs.Curves.{RightCurve, Rising, Reaches, inParts, mostBytes};
+
+pub mod amounts;
+pub mod fit;
+pub mod pieces;
+pub mod search;
+
+// A real-time curve with its numbers: rates in parts, bends in ticks.
+pub enum Curve {
+    None,
+    Straight { rate: u32 },
+    FrontLoaded { first: u32, bend: u32, last: u32 },
+    Delayed { bend: u32, rate: u32 },
+}
+
+// A piece of a leaf's or a class's history: the tick, or the mark, at which it starts, and the bytes
+// sent before.
+pub struct Piece {
+    pub start: u64,
+    pub sent: u64,
+}
+
+// The two pieces that stand for a whole list of them: the lowest on the curve's first slope and the
+// lowest on its last.
+pub struct Kept {
+    pub steep: Piece,
+    pub flat: Piece,
+}
+
+// 65,536 parts are one byte per tick.
+pub const PARTS: u64 = 65536;
