@@ -1,0 +1,115 @@
+-- Every tree has a verdict: each rule can be tested, and the first that is broken, or none, decides.
+-- Assumes nothing.
+use Prim.Native.Nat.{ℕ, zero, suc, _≤_}
+use mathlib.Core.Bool.{Bool, true, false, true≢false}
+use mathlib.Core.List.{List}
+use mathlib.Core.Logic.{_⊎_, inl, inr, ⊎-elim}
+use mathlib.Core.Path.{_≡_, refl, sym}
+use native.Mathlib.Decide.{decLe, ℕ-discrete, map-dec}
+use native.Mathlib.Nat.{not-suc-le-zero, eq-or-lt-of-le, le-of-suc-le-suc}
+use native.Mathlib.Omega.{arith}
+use lib.ListN.{length, getD}
+use Rattle.curve.specs.Curves.{Within, RightRate, RightBend, RightCurve, inParts}
+use Rattle.curve.specs.Fit.{CurvesFit, total, bendOf, slopes}
+use Rattle.curve.specs.declared.Curve.{Curve}
+use Rattle.curve.specs.declared.Curve.the-variants.{None, Straight, FrontLoaded, Delayed}
+use Rattle.curve.proofs.Laws.Fit.{bends-enough, slopes-needed, fit-at, every-bend}
+use Rattle.tree.specs.Numbers.{numberOf}
+use Rattle.tree.specs.Rules.{RightClass, RightBody, RightDepth, RightPlace, EveryClass, LowestFault, broken, kept, OfTree, OfClasses, Checked, Judged}
+use Rattle.tree.specs.Trees.{classAt, curveOf, hasChild, depth, curvesOf}
+use Rattle.tree.specs.declared.Class.{Class}
+use Rattle.tree.specs.declared.Refusal.{Refusal}
+use Rattle.tree.specs.declared.Refusal.the-variants.{WrongCount, WrongBody, TooDeep, CurveAboveChildren, CurvesDontFit}
+use Rattle.tree.specs.declared.Tree.{Tree}
+use Rattle.tree.specs.declared.Verdict.{Verdict}
+use Rattle.tree.specs.declared.Verdict.the-variants.{Right, Refused}
+
+-- ---- what can be tested
+both-dec : {A B : Type 0} → Dec A → Dec B → Dec (A × B)
+both-dec (yes a) (yes b) = yes (a, b)
+both-dec (yes a) (no b) = no (λ p. b (p .1))
+both-dec (no a) (yes b) = no (λ p. a (p .0))
+both-dec (no a) (no b) = no (λ p. a (p .0))
+
+within-dec : (low high x : ℕ) → Dec (Within low high x)
+within-dec low high x = map-dec (λ p. record { above = p .0; below = p .1 }) (λ w. (w .above, w .below)) (both-dec (decLe low x) (decLe x high))
+
+none-dec : (S : Curve) → Dec (S ≡ None)
+none-dec None = yes refl
+none-dec (Straight m) = no (λ e. let z : _≡_ {A = ℕ} 0 1 = cc in omega arith)
+none-dec (FrontLoaded m₁ d m₂) = no (λ e. let z : _≡_ {A = ℕ} 0 1 = cc in omega arith)
+none-dec (Delayed d m) = no (λ e. let z : _≡_ {A = ℕ} 0 1 = cc in omega arith)
+
+rate-dec : (m : ℕ) → Dec (RightRate m)
+rate-dec m = within-dec 1 65536 m
+
+bend-dec : (d : ℕ) → Dec (RightBend d)
+bend-dec d = within-dec 1 1048576 d
+
+curve-dec : (S : Curve) → Dec (RightCurve S)
+unfolding RightCurve
+curve-dec None = yes tt
+curve-dec (Straight m) = rate-dec m
+curve-dec (FrontLoaded m₁ d m₂) =
+    map-dec (λ p. record { first = p .0 .0; bend = p .0 .1; last = p .1 .0; falls = p .1 .1 }) (λ r. ((r .first, r .bend), (r .last, r .falls)))
+    (both-dec (both-dec (rate-dec m₁) (bend-dec d)) (both-dec (rate-dec m₂) (decLe (suc m₂) m₁)))
+curve-dec (Delayed d m) =
+    map-dec (λ p. record { bend = p .0; rate = p .1 }) (λ r. (r .bend, r .rate)) (both-dec (bend-dec d) (rate-dec m))
+
+class-dec : (c : Class) (i : ℕ) → Dec (RightClass c i)
+unfolding RightClass
+class-dec c zero =
+    map-dec (λ p. record { parent = p .0; share = p .1 .0; curve = p .1 .1 }) (λ r. (r .parent, (r .share, r .curve)))
+    (both-dec (ℕ-discrete (c .parent) 0) (both-dec (ℕ-discrete (c .share) 65536) (none-dec (c .curve))))
+class-dec c (suc i) =
+    map-dec (λ p. record { parent = p .0; share = p .1 .0; curve = p .1 .1 }) (λ r. (r .parent, (r .share, r .curve)))
+    (both-dec (decLe (suc (c .parent)) (suc i)) (both-dec (rate-dec (c .share)) (curve-dec (c .curve))))
+
+place-dec : (b : Bool) (S : Curve) → Dec (b ≡ true → S ≡ None)
+place-dec true S = map-dec (λ e has. e) (λ good. good refl) (none-dec S)
+place-dec false S = yes (λ has. absurd (true≢false (sym has)))
+
+-- ---- the lowest class at fault, or none
+lowest-or-every : (Good : ℕ → Type 0) → ((i : ℕ) → Dec (Good i)) → (n : ℕ) → EveryClass Good n ⊎ ((i : ℕ) × LowestFault Good n i)
+lowest-or-every Good test zero = inl (λ i l. absurd (not-suc-le-zero l))
+lowest-or-every Good test (suc n) = ⊎-elim at-last (λ found. inr (found .0, higher (found .1))) (lowest-or-every Good test n)
+  where
+    higher : {i : ℕ} → LowestFault Good n i → LowestFault Good (suc n) i
+    higher low = record { class = omega arith; fault = low .fault; lowest = low .lowest }
+
+    more : EveryClass Good n → Good n → EveryClass Good (suc n)
+    more every good i l = ⊎-elim (λ e. rw e good) (λ l′. every i l′) (eq-or-lt-of-le (le-of-suc-le-suc l))
+
+    at-last : EveryClass Good n → EveryClass Good (suc n) ⊎ ((i : ℕ) × LowestFault Good (suc n) i)
+    at-last every = elim (test n) [ yes good ↦ inl (more every good) | no bad ↦ inr (n, record { class = omega arith; fault = bad; lowest = every }) ]
+
+fit-dec : (Ss : List Curve) → Dec (CurvesFit Ss)
+fit-dec Ss =
+    ⊎-elim
+    (λ every. map-dec (λ slow. bends-enough Ss (every-bend (λ b. total Ss b ≤ inParts b) Ss every) slow) (slopes-needed Ss) (decLe (slopes Ss) 65536))
+    (λ found. no (λ fit. found .1 .fault (fit-at Ss fit (bendOf (getD Ss (found .0) None)))))
+    (lowest-or-every (λ k. total Ss (bendOf (getD Ss k None)) ≤ inParts (bendOf (getD Ss k None)))
+    (λ k. decLe (total Ss (bendOf (getD Ss k None))) (inParts (bendOf (getD Ss k None)))) (length Ss))
+
+-- ---- a verdict of one rule, and of all
+abbrev Some : (Verdict → Type 0) → Type 0
+Some Next = (v : Verdict) × Next v
+
+of-tree-some : (why : Refusal) {Good : Type 0} {Next : Verdict → Type 0} → Dec Good → (Good → Some Next) → Some (OfTree (numberOf why) Good Next)
+of-tree-some why (yes good) next = let after = next good in (after .0, kept good (after .1))
+of-tree-some why (no bad) next = (Refused why 0, broken refl (record { zero = refl; fault = bad }))
+
+of-classes-some : (why : Refusal) (n : ℕ) (Good : ℕ → Type 0) {Next : Verdict → Type 0} → ((i : ℕ) → Dec (Good i)) →
+    (EveryClass Good n → Some Next) → Some (OfClasses (numberOf why) n Good Next)
+of-classes-some why n Good test next =
+    ⊎-elim (λ every. let after = next every in (after .0, kept every (after .1))) (λ found. (Refused why (found .0), broken refl (found .1)))
+    (lowest-or-every Good test n)
+
+pub check-some : (t : Tree) → (v : Verdict) × Judged t v
+unfolding Checked
+check-some t =
+    of-tree-some WrongCount (within-dec 2 64 (t .count))
+    (λ count. of-classes-some WrongBody (t .count) (RightBody t) (λ i. class-dec (classAt t i) i)
+    (λ bodies. of-classes-some TooDeep (t .count) (RightDepth t) (λ i. decLe (depth t i) 8)
+    (λ depths. of-classes-some CurveAboveChildren (t .count) (RightPlace t) (λ i. place-dec (hasChild t i) (curveOf t i))
+    (λ places. of-tree-some CurvesDontFit (fit-dec (curvesOf t)) (λ fit. (Right, refl))))))
