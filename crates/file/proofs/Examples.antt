@@ -1,0 +1,49 @@
+-- "The smallest straight tree in full, as words": its file has those words, and in either order it reads as that tree.
+-- Assumes nothing.
+use Prim.Native.Nat.{ℕ, zero, suc, _<_}
+use mathlib.Core.Path.{_≡_, refl, sym}
+use native.Mathlib.Omega.{arith}
+use lib.Dec.{lit≤, lit<}
+use Rattle.curve.specs.Curves.{RightCurve}
+use Rattle.curve.specs.Fit.{sumOf}
+use Rattle.curve.specs.declared.Curve.the-variants.{Straight}
+use Rattle.tree.specs.declared.Verdict.the-variants.{Right}
+use Rattle.tree.specs.Trees.{classAt, curvesOf, curvesFrom, curveBelow, SameTree}
+use Rattle.tree.specs.Rules.{RightTree}
+use Rattle.tree.proofs.Same.{same-right}
+use Rattle.file.specs.declared.Order.{Order}
+use Rattle.file.specs.declared.Order.the-variants.{Big, Little}
+use Rattle.file.specs.Format.{bodyBytes, wordAt, orderOf, offsetOf, lengthOf, kindCurve, bodyClass, rightKind, fileClass, firstClasses, treeOf, ReadsAs}
+use Rattle.file.specs.Writing.{wordBytes, bytesOf, curveBytes, bodyWords, bodyPlace, numbered, fileWords, fileIn}
+use Rattle.file.specs.Smallest.{smallestWords, smallestTree}
+use Rattle.file.proofs.RoundTrip.{reads-back}
+use Rattle.file.proofs.WriteLaws.Stars.{star, star-right}
+
+pub smallest-words : fileWords smallestTree ≡ smallestWords
+unfolding fileWords numbered bodyWords bodyPlace curveBytes bodyBytes classAt smallestTree
+smallest-words = refl
+
+-- it is a star of one leaf
+star-class : (i : ℕ) → i < 2 → classAt (star 1 (Straight 65536)) i ≡ classAt smallestTree i
+unfolding classAt smallestTree
+star-class zero h = refl
+star-class (suc zero) h = refl
+star-class (suc (suc i)) h = absurd (omega arith)
+
+star-smallest : SameTree (star 1 (Straight 65536)) smallestTree
+unfolding smallestTree
+star-smallest = record { counts = refl; classes = star-class }
+
+smallest-right : RightTree smallestTree
+unfolding RightCurve sumOf curvesOf curvesFrom curveBelow classAt
+smallest-right =
+    same-right (star 1 (Straight 65536)) smallestTree star-smallest
+    (star-right 1 (Straight 65536) (lit< tt) (lit< tt) (record { above = lit≤ tt; below = lit≤ tt }) (lit≤ tt))
+
+says : (order : Order) → treeOf (fileIn order smallestTree) ≡ smallestTree
+unfolding fileIn fileWords numbered bodyWords bodyPlace curveBytes classAt smallestTree bytesOf wordBytes treeOf firstClasses fileClass rightKind bodyClass bodyBytes kindCurve offsetOf lengthOf orderOf wordAt
+says Big = refl
+says Little = refl
+
+pub smallest-reads : (order : Order) → ReadsAs (fileIn order smallestTree) Right smallestTree
+smallest-reads order = record { judged = reads-back order smallestTree smallest-right .reads .judged; given = sym (says order) }

@@ -1,0 +1,6 @@
+-- Laws of reading.
+pub mod Bodies
+pub mod Judging
+pub mod KindTable
+pub mod Orders
+pub mod Places

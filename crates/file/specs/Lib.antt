@@ -1,0 +1,5 @@
+-- The definitions of the class-tree file, in document 01's words.
+pub mod Format
+pub mod Writing
+pub mod Smallest
+pub mod Steps

@@ -1,0 +1,187 @@
+-- The runs: their premises are computed, and the late packet's run bounds the guarantee's number from below.
+-- Assumes nothing.
+use Prim.Native.Nat.{ℕ, zero, suc, _+_, _-_, _≤_, _<_}
+use mathlib.Core.Path.{_≡_, refl}
+use mathlib.Core.Bool.{true, false}
+use mathlib.Core.List.{List, [], _∷_}
+use mathlib.Core.Logic.{⊎-elim}
+use native.Mathlib.Omega.{arith}
+use lib.Dec.{lit≤}
+use lib.ListN.{drop}
+use Rattle.curve.specs.Curves.{amount, RightCurve}
+use Rattle.curve.specs.Pieces.{standing}
+use Rattle.curve.specs.Fit.{sumOf, CurvesFit}
+use Rattle.curve.specs.declared.Curve.the-variants.{None}
+use Rattle.curve.proofs.Laws.Order.{le-or-lt}
+use Rattle.tree.specs.declared.Tree.{Tree}
+use Rattle.tree.specs.Trees.{classAt, curveOf, isChild, childBelow, hasChild, isLeaf, stepsUp, depth, curveBelow, curvesFrom, curvesOf}
+use Rattle.tree.specs.Rules.{RightClass}
+use Rattle.rules.specs.declared.Rule.{Rule}
+use Rattle.rules.specs.Limits.{weigh}
+use Rattle.rules.specs.Calls.{Call, came, left, idle}
+use Rattle.rules.specs.Clock.{clock}
+use Rattle.rules.specs.Queues.{queue, waits, headLength, headNumber, accepted}
+use Rattle.rules.specs.Leaves.{sentRealTime, pieces}
+use Rattle.rules.specs.Over.{anyOf, largestOf, smallestOf}
+use Rattle.rules.specs.Classes.{isMet, sent, active}
+use Rattle.rules.specs.Fair.{roundedUp, virtualTime, isOther, meeting, fairPieces}
+use Rattle.rules.specs.Choice.{hasCurve}
+use Rattle.rules.specs.Lawful.{LawfulCalls, Grown, right}
+use Rattle.rules.specs.Rows.{treeA}
+use Rattle.rules.proofs.Tests.{never}
+use Rattle.rules.proofs.Rows.{rows-hold}
+use Rattle.link.specs.Link.{heaviest, free, Link}
+use Rattle.link.specs.Guarantee.{Moment, now, after, Head, LeftBy}
+use Rattle.link.specs.Runs.{Premises, runA, historyA, lateTree, lateRun, lateHistory, Attained, Shown, Sharp}
+use Rattle.link.proofs.Told.{every, headDue, deadline-told, lawful, lawful-told, keeps, keeps-told}
+use Rattle.link.proofs.Guarantee.{guarantee}
+
+-- tree A is right, as the table's first row says
+grown-A : Grown treeA
+grown-A = rows-hold .0 .0 .grown
+
+lawful-A : LawfulCalls treeA runA
+unfolding lawful every classAt isChild childBelow hasChild isLeaf clock queue accepted weigh sentRealTime pieces standing amount anyOf largestOf smallestOf isMet sent active roundedUp virtualTime isOther meeting fairPieces
+lawful-A = lawful-told treeA grown-A (8500 ∷ 6000 ∷ 6000 ∷ 4000 ∷ 2000 ∷ 4000 ∷ 1000 ∷ []) runA refl
+
+link-A : Link 0 runA
+unfolding keeps clock queue anyOf free weigh
+link-A = record { soon = omega arith; kept = keeps-told treeA 0 runA lawful-A refl }
+
+-- the moment n calls ago
+ago : (n : ℕ) (cs : List Call) → Moment (drop n cs) cs
+ago zero cs = now
+ago (suc n) [] = now
+ago (suc n) (c ∷ cs) = after (ago n cs)
+
+-- a head on closed numbers: its deadline is told by two tests
+head-told : (tree : Tree) (cs : List Call) (j deadline : ℕ) → hasCurve (curveOf tree j) ≡ true → waits cs j ≡ true
+    → headDue tree cs j deadline ≡ true → headDue tree cs j (deadline - 1) ≡ false → Head tree cs j (headNumber cs j) (headLength cs j) deadline
+head-told tree cs j deadline curved waiting at before =
+    record {
+      curved = curved;
+      waiting = waiting;
+      isNumber = refl;
+      isLength = refl;
+      isDeadline = deadline-told (curveOf tree j) (pieces cs j) (sentRealTime cs j + weigh (headLength cs j)) deadline at before;
+    }
+
+premises-A : (n j number length deadline : ℕ) → Head treeA (drop n runA) j number length deadline → deadline + heaviest ≤ clock runA
+    → Premises historyA j number length deadline
+premises-A n j number length deadline head reached =
+    record {
+      lawful = record { grown = grown-A; stamp = omega arith; lawful = lawful-A };
+      link = link-A;
+      past = drop n runA;
+      moment = ago n runA;
+      head = head;
+      reached = reached;
+    }
+
+first-A : Premises historyA 1 0 500 1000
+unfolding every classAt queue clock weigh sentRealTime pieces headNumber standing amount
+first-A = premises-A 10 1 0 500 1000 (head-told treeA (drop 10 runA) 1 1000 refl refl refl refl) (omega arith)
+
+second-A : Premises historyA 2 0 1000 4000
+unfolding every classAt queue clock weigh sentRealTime pieces headNumber standing amount
+second-A = premises-A 9 2 0 1000 4000 (head-told treeA (drop 9 runA) 2 4000 refl refl refl refl) (omega arith)
+
+last-A : Premises historyA 2 3 700 8500
+unfolding every classAt queue clock weigh sentRealTime pieces headNumber standing amount
+last-A = premises-A 2 2 3 700 8500 (head-told treeA (drop 2 runA) 2 8500 refl refl refl refl) (omega arith)
+
+-- The late tree is right.
+
+late-class : (i : ℕ) → i < 3 → RightClass (classAt lateTree i) i
+unfolding RightClass classAt RightCurve
+late-class zero h = record { parent = refl; share = refl; curve = refl }
+late-class (suc zero) h = record { parent = omega arith; share = omega arith; curve = tt }
+late-class (suc (suc zero)) h = record { parent = omega arith; share = omega arith; curve = omega arith }
+late-class (suc (suc (suc i))) h = absurd (omega arith)
+
+late-depth : (i : ℕ) → i < 3 → depth lateTree i ≤ 8
+unfolding depth stepsUp classAt
+late-depth zero h = lit≤ tt
+late-depth (suc zero) h = lit≤ tt
+late-depth (suc (suc zero)) h = lit≤ tt
+late-depth (suc (suc (suc i))) h = absurd (omega arith)
+
+late-place : (i : ℕ) → i < 3 → hasChild lateTree i ≡ true → curveOf lateTree i ≡ None
+unfolding hasChild childBelow isChild classAt
+late-place zero h e = refl
+late-place (suc zero) h e = never e refl
+late-place (suc (suc zero)) h e = never e refl
+late-place (suc (suc (suc i))) h e = absurd (omega arith)
+
+late-grown : Grown lateTree
+unfolding CurvesFit sumOf curvesOf curvesFrom curveBelow classAt amount
+late-grown =
+    right (record { count = omega arith; bodies = late-class; depths = late-depth; places = late-place; fit = λ t. omega arith })
+
+late-lawful : LawfulCalls lateTree lateRun
+unfolding lawful every classAt isChild childBelow hasChild isLeaf clock queue accepted weigh sentRealTime pieces standing amount anyOf largestOf smallestOf isMet sent active roundedUp virtualTime isOther meeting fairPieces
+late-lawful = lawful-told lateTree late-grown (1500 ∷ []) lateRun refl
+
+late-link : Link 0 lateRun
+unfolding keeps clock queue anyOf free weigh
+late-link = record { soon = omega arith; kept = keeps-told lateTree 0 lateRun late-lawful refl }
+
+late-head : Head lateTree (drop 2 lateRun) 2 0 1500 1500
+unfolding every classAt queue clock weigh sentRealTime pieces headNumber standing amount
+late-head = head-told lateTree (drop 2 lateRun) 2 1500 refl refl refl refl
+
+late-premises : Premises lateHistory 2 0 1500 1500
+unfolding clock weigh
+late-premises =
+    record {
+      lawful = record { grown = late-grown; stamp = omega arith; lawful = late-lawful };
+      link = late-link;
+      past = drop 2 lateRun;
+      moment = ago 2 lateRun;
+      head = late-head;
+      reached = omega arith;
+    }
+
+-- what holds of every departure of a run holds of each
+EveryDeparture : (ℕ → ℕ → Type 0) → List Call → Type 0
+EveryDeparture Q [] = Unit {0}
+EveryDeparture Q (came at j n ∷ cs) = EveryDeparture Q cs
+EveryDeparture Q (left at j rule ∷ cs) = Q at j × EveryDeparture Q cs
+EveryDeparture Q (idle at ∷ cs) = EveryDeparture Q cs
+
+departures-before : (Q : ℕ → ℕ → Type 0) (c : Call) (cs : List Call) → EveryDeparture Q (c ∷ cs) → EveryDeparture Q cs
+unfolding EveryDeparture
+departures-before Q (came at j n) cs h = h
+departures-before Q (left at j rule) cs h = h .1
+departures-before Q (idle at) cs h = h
+
+departure : (Q : ℕ → ℕ → Type 0) {at j : ℕ} {rule : Rule} {before cs : List Call} → Moment (left at j rule ∷ before) cs → EveryDeparture Q cs → Q at j
+unfolding EveryDeparture
+departure Q now h = h .0
+departure Q (after {c = c} {cs = cs} m) h = departure Q m (departures-before Q c cs h)
+
+no-sooner : (tick : ℕ) → LeftBy lateRun 2 0 1500 tick → 1500 + heaviest ≤ tick
+unfolding EveryDeparture weigh
+no-sooner tick l =
+    omega (arith, l .full, departure (λ at j. j ≡ 2 → 9000 ≤ at) (l .call) ((λ e. omega arith), ((λ e. absurd (omega arith)), tt)) refl)
+
+late-exact : Attained lateHistory 2 0 1500 1500
+late-exact =
+    record {
+      premises = late-premises;
+      leaves = guarantee 0 lateHistory (late-premises .lawful) late-link .noneLater (drop 2 lateRun) (ago 2 lateRun) 2 0 1500 1500 late-head (late-premises .reached);
+      noSooner = no-sooner;
+    }
+
+pub shown : Shown
+shown = record { first = first-A; second = second-A; last = last-A; exact = late-exact }
+
+pub sharp : Sharp
+unfolding clock
+sharp late holds =
+    ⊎-elim (λ l. l) (λ l. absurd (omega (arith, no-sooner (1500 + late) (by l)))) (le-or-lt heaviest late)
+  where
+    by : late < heaviest → LeftBy lateRun 2 0 1500 (1500 + late)
+    by l =
+        holds lateHistory (late-premises .lawful) late-link (drop 2 lateRun) (ago 2 lateRun) 2 0 1500 1500 late-head
+        (omega (arith, late-premises .reached))

@@ -1,0 +1,16 @@
+-- The table of document 01's rows, and the laws of its rules.
+pub mod Examples
+pub mod Rows
+pub mod Tests
+pub mod Over
+pub mod Trees
+pub mod Queues
+pub mod Active
+pub mod Least
+pub mod Choice
+pub mod Answers
+pub mod Virtual
+pub mod Sent
+pub mod Leaves
+pub mod Fair
+pub mod One

@@ -1,0 +1,102 @@
+-- Document 01, "Example tree and its numbers": the rows marked P, all twelve, as one table, and what a row says.
+-- Assumes nothing.
+use Prim.Native.Nat.{ℕ}
+use mathlib.Core.Path.{_≡_}
+use mathlib.Core.Bool.{Bool, true, false}
+use mathlib.Core.List.{List, [], _∷_}
+use lib.ListN.{replicate}
+use Rattle.curve.specs.Answers.{Exactly}
+use Rattle.curve.specs.Fit.{CurvesFit}
+use Rattle.curve.specs.declared.Curve.{Curve}
+use Rattle.curve.specs.declared.Curve.the-variants.{None, Straight, FrontLoaded, Delayed}
+use Rattle.tree.specs.declared.Tree.{Tree}
+use Rattle.tree.specs.Trees.{noClass}
+use Rattle.rules.specs.declared.Rule.{Rule}
+use Rattle.rules.specs.declared.Rule.the-variants.{RealTime, Fair}
+use Rattle.rules.specs.Calls.{Call, came, left}
+use Rattle.rules.specs.Leaves.{DeadlineOf, EligibleOf}
+use Rattle.rules.specs.Fair.{virtualTimeOf}
+use Rattle.rules.specs.Choice.{Choice}
+use Rattle.rules.specs.Lawful.{Lawful}
+
+-- "Tree A: leaf 1, share 16,384, front-loaded 32,768 / 2,000 / 16,384; leaf 2, share 49,152, delayed 2,000 / 32,768."
+abbrev pub treeA : Tree
+treeA =
+    record {
+      count = 3;
+      classes =
+          record { parent = 0; share = 65536; curve = None }
+          ∷ record { parent = 0; share = 16384; curve = FrontLoaded 32768 2000 16384 }
+          ∷ record { parent = 0; share = 49152; curve = Delayed 2000 32768 }
+          ∷ replicate 61 noClass;
+    }
+
+-- What a row's result says of a history of tree A: the eligible time or the deadline of the head packet of a leaf, the virtual time of a class, or the
+-- leaf whose head packet leaves at a tick, and the rule.
+pub data Result : Type 0 where
+  eligible : (leaf tick : ℕ) → Result
+  deadline : (leaf tick : ℕ) → Result
+  virtual : (class v : ℕ) → Result
+  leaves : (tick leaf : ℕ) → Rule → Result
+
+abbrev pub ResultHolds : List Call → Result → Type 0
+ResultHolds cs (eligible leaf tick) = EligibleOf treeA cs leaf tick
+ResultHolds cs (deadline leaf tick) = DeadlineOf treeA cs leaf tick
+ResultHolds cs (virtual class v) = virtualTimeOf treeA cs class ≡ v
+ResultHolds cs (leaves tick leaf rule) = Choice treeA cs tick leaf rule
+
+abbrev pub EveryResult : List Call → List Result → Type 0
+EveryResult cs [] = Unit {0}
+EveryResult cs (r ∷ rs) = ResultHolds cs r × EveryResult cs rs
+
+-- "The real-time curves fit if at every whole t from 0 the sum of all S(t) is at most 65,536·t"
+abbrev pub Fit : List Curve → Type 0
+Fit Ss = CurvesFit Ss
+
+-- A row: a situation of tree A, the calls so far with the newest first, and its results; or curves, and whether they fit ("10" where they don't).
+pub data Row : Type 0 where
+  situation : List Call → List Result → Row
+  curves : List Curve → Bool → Row
+
+-- What a row says: the calls are ones that the rules make and allow, in this order, and each result holds after them.
+abbrev pub RowHolds : Row → Type 0
+RowHolds (situation cs rs) = Lawful (record { tree = treeA; first = 0; calls = cs }) × EveryResult cs rs
+RowHolds (curves Ss fit) = Exactly fit (Fit Ss)
+
+-- "both wait; departures at 0 and 500: 1 then 2, real-time"
+abbrev pub bothLeft : List Call
+bothLeft = left 500 2 RealTime ∷ left 0 1 RealTime ∷ came 0 2 1000 ∷ came 0 1 500 ∷ []
+
+abbrev pub rows : List Row
+rows =
+    -- "leaf 1, first packet 500 at 0: eligible 0, deadline 1,000"
+    situation (came 0 1 500 ∷ []) (eligible 1 0 ∷ deadline 1 1000 ∷ [])
+    -- "leaf 2, first packet 1,000 at 0: eligible 0, deadline 4,000"
+    ∷ situation (came 0 2 1000 ∷ []) (eligible 2 0 ∷ deadline 2 4000 ∷ [])
+    -- "both wait; departures at 0 and 500: 1 then 2, real-time; virtual times 2,000 and 1,334"
+    ∷ situation bothLeft (virtual 1 2000 ∷ virtual 2 1334 ∷ [])
+    -- "then leaf 1 gets 500 at 5,000: eligible 5,000, deadline 6,000"
+    ∷ situation (came 5000 1 500 ∷ bothLeft) (eligible 1 5000 ∷ deadline 1 6000 ∷ [])
+    -- "instead leaf 1 gets 500 at 600: eligible 1,000, deadline 2,000"
+    ∷ situation (came 600 1 500 ∷ bothLeft) (eligible 1 1000 ∷ deadline 1 2000 ∷ [])
+    -- "leaf 2 first waits at 0, sent 1,000 by the real-time rule; gets 1,000 at 1,000: eligible 2,000, deadline 6,000"
+    ∷ situation (came 1000 2 1000 ∷ left 0 2 RealTime ∷ came 0 2 1000 ∷ []) (eligible 2 2000 ∷ deadline 2 6000 ∷ [])
+    -- "leaf 1 alone, three of 500 at 0; departures 0, 500, 1,000: real-time, fair, real-time; third's deadline 2,000"
+    ∷ situation
+    (left 500 1 Fair ∷ left 0 1 RealTime ∷ came 0 1 500 ∷ came 0 1 500 ∷ came 0 1 500 ∷ [])
+    (leaves 1000 1 RealTime ∷ deadline 1 2000 ∷ [])
+    -- "both passive at 2,000 and 1,334; leaf 2 then leaf 1 turn active: both at 2,000"
+    ∷ situation (came 2000 1 500 ∷ came 2000 2 500 ∷ bothLeft) (virtual 1 2000 ∷ virtual 2 2000 ∷ [])
+    -- "straight 32,768 and 32,768: fit"
+    ∷ curves (Straight 32768 ∷ Straight 32768 ∷ []) true
+    -- "straight 32,769 and 32,768: 10"
+    ∷ curves (Straight 32769 ∷ Straight 32768 ∷ []) false
+    -- "front-loaded 65,535 / 1 / 1 with straight 1: fit"
+    ∷ curves (FrontLoaded 65535 1 1 ∷ Straight 1 ∷ []) true
+    -- "front-loaded 65,536 / 1 / 1 with straight 1: 10"
+    ∷ curves (FrontLoaded 65536 1 1 ∷ Straight 1 ∷ []) false
+    ∷ []
+
+abbrev pub EveryRow : List Row → Type 0
+EveryRow [] = Unit {0}
+EveryRow (row ∷ rest) = RowHolds row × EveryRow rest

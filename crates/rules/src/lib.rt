@@ -1,0 +1,54 @@
+// What a call of the scheduler answers, and the two small functions that stand on no state. The rules
+// themselves are the definitions of specs/.
+ghost use mathlib.Core.Path.{_≡_};
+ghost use Rattle.rules.specs.Limits as limits;
+ghost use Rattle.rules.specs.Clock.{elapsedTicks};
+use tree::Refusal;
+
+// The rule by which a packet leaves.
+pub enum Rule {
+    RealTime,
+    Fair,
+}
+
+// Eligible time and deadline, for a leaf with a real-time curve.
+pub enum Times {
+    Untimed,
+    Timed { eligible: u64, deadline: u64 },
+}
+
+// A packet that leaves: its class, its number within the leaf from 0, its length.
+pub struct Packet {
+    pub class: u32,
+    pub number: u64,
+    pub length: u32,
+    pub rule: Rule,
+    pub times: Times,
+}
+
+// The answer of an arrival.
+pub enum Arrival {
+    Accepted { number: u64 },
+    Refused { why: Refusal },
+}
+
+// The answer of a departure.
+pub enum Departure {
+    Leaves { packet: Packet },
+    NoneWaits,
+    Refused { why: Refusal },
+}
+
+// The bytes that a packet of this length counts for.
+pub fn weigh(length: u32) -> u64
+    ensures { λ r. ⌜ r ≡ limits.weigh length ⌝ }
+{
+    length as u64
+}
+
+// The ticks from the last kept stamp to this one, by a counter that comes round to zero.
+pub fn elapsed(stamp: u32, last: u32) -> u32
+    ensures { λ r. ⌜ r ≡ elapsedTicks stamp last ⌝ }
+{
+    std::num::wrapping_sub_u32(stamp, last)
+}
