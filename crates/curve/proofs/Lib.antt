@@ -1,4 +1,3 @@
--- The laws of the curve layer, for its own proofs and for the layers above; that each public function's promise allows one answer; the worked rows.
+-- The laws of the curve layer, for its own proofs and for the layers above; that each public function's promise allows one answer.
 pub mod Laws
 pub mod One
-pub mod WorkedRows

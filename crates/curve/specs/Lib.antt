@@ -3,4 +3,3 @@ pub mod Answers
 pub mod Curves
 pub mod Fit
 pub mod Pieces
-pub mod Rows

@@ -24,7 +24,7 @@ use Rattle.rules.specs.Leaves.{sentRealTime, pieces}
 use Rattle.rules.specs.Lawful.{Allowed, LawfulCalls, Grown, right, none}
 use Rattle.rules.proofs.Tests.{never}
 use Rattle.rules.proofs.Trees.{leaf-class, curve-rising}
-use Rattle.rules.proofs.Queues.{waits-leaf}
+use Rattle.rules.proofs.Queues.{waits-leaf, waits-came-on}
 use Rattle.rules.proofs.Least.{deadline-exists}
 use Rattle.link.specs.Link.{heaviest, free, Keeps, EveryCallKeeps, Link}
 use Rattle.link.specs.Guarantee.{Moment, now, after, Head, LeftBy, TimeLeft, Sound, Guaranteed, FromFit, Guarantee, HeadsThere}
@@ -75,12 +75,7 @@ module _ (tree : Tree) (sound : Sound tree) (r : ℕ) where
             (head-fits tree sound r deadline cs lawful i j (head .curved) (head .waiting) (head .isDeadline .holds));
       }
 
--- the head of a queue to which a packet may have come
-waits-came : (b : Bool) (q : List ℕ) (n : ℕ) → isNonempty q ≡ true → isNonempty (cond b (q ++ n ∷ []) q) ≡ true
-waits-came true [] n w = refl
-waits-came true (x ∷ q) n w = refl
-waits-came false q n w = w
-
+-- the head of a queue to which a packet may have come, and the pieces of its leaf
 head-came : (b : Bool) (q : List ℕ) (n : ℕ) → isNonempty q ≡ true → headOf (cond b (q ++ n ∷ []) q) ≡ headOf q
 head-came true [] n w = never w refl
 head-came true (x ∷ q) n w = refl
@@ -110,7 +105,7 @@ module _ (tree : Tree) (j number n deadline : ℕ) where
       carried
       cs
       (came at k m ∷ cs)
-      (waits-came (eqb k j) (queue cs j) m (h .waiting))
+      (waits-came-on at k m cs j (h .waiting))
       refl
       (head-came (eqb k j) (queue cs j) m (h .waiting))
       (pieces-came (eqb k j) (queue cs j) (pieces cs j) (record { start = at; sent = sentRealTime cs j } ∷ pieces cs j) (h .waiting))
@@ -203,7 +198,7 @@ from-fit r tree cs sound lawful link =
           (λ l. l)
           (λ h. absurd (still j number n deadline h reached))
           (fate tree j number n deadline sound r past cs m (link .soon) lawful (link .kept) head);
-      timeLeft = λ past m j number n deadline head. in-the-past past m j number n deadline head;
+      timeLeft = in-the-past;
     }
   where
     still : (j number n deadline : ℕ) → Head tree cs j number n deadline → deadline + heaviest ≤ clock cs → ⊥
@@ -214,19 +209,8 @@ from-fit r tree cs sound lawful link =
 
     in-the-past : TimeLeft heaviest tree cs
     in-the-past past m j number n deadline head =
-        let t =
-        in-time
-        tree
-        sound
-        r
-        past
-        (past-lawful tree m lawful)
-        (record { soon = link .soon; kept = past-kept r m (link .kept) })
-        j
-        number
-        n
-        deadline
-        head in
+        let kept : Link r past = record { soon = link .soon; kept = past-kept r m (link .kept) } in
+        let t = in-time tree sound r past (past-lawful tree m lawful) kept j number n deadline head in
         omega (arith, t .full, t .fromNow)
 
 -- a tree that a start keeps is sound: rule 4 counts its classes, 7 its curves' numbers, and 10 says that they fit

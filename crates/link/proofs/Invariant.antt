@@ -36,7 +36,7 @@ use Rattle.rules.proofs.Least.{eligible-exists, deadline-exists}
 use Rattle.link.specs.Link.{heaviest, free, PassesNone}
 use Rattle.link.specs.Guarantee.{Sound}
 use Rattle.link.proofs.Sums.{sumFrom, sum-room, fit-sum}
-use Rattle.link.proofs.Leaves.{head-some, head-most, started, started-later, latest-started, unripe-due}
+use Rattle.link.proofs.Leaves.{head-some, head-most, latest-by, started-by, unripe-due}
 
 -- what is due by D is paid for, where the count began at tick s with `a` bytes sent: it is at most those and what the curve gives from s to D
 abbrev Paid : Curve → List Piece → (D s a : ℕ) → Type 0
@@ -143,7 +143,7 @@ module _ (tree : Tree) (r D : ℕ) where
     at-came at k n t passes = go (le-or-lt at (ceiling cs (i .s) (i .a)))
       where
         old : (j : ℕ) → latest (pieces cs j) ≤ at
-        old j = le-trans (latest-started (pieces cs j) (started tree cs lawful j)) (t .forward)
+        old j = latest-by tree cs lawful j (t .forward)
 
         stands : (s : ℕ) (a : ℕ → ℕ) → s ≤ at → (j : ℕ) → Stands tree D s a cs j → Stands tree D s a (came at k n ∷ cs) j
         stands s a begun j h =
@@ -252,7 +252,7 @@ module _ (tree : Tree) (sound : Sound tree) (r D : ℕ) (cs : List Call) (lawful
             inr
             (λ y due.
             unripe-due (curveOf tree j) rising (pieces cs j) (sentRealTime cs j) (e .0) at D y
-            (started-later (pieces cs j) forward (started tree cs lawful j)) (e .1) unripe due)
+            (latest-by tree cs lawful j forward) (started-by tree cs lawful j forward) (e .1) unripe due)
 
     -- a departure after which the count begins anew
     afresh : (k : ℕ) (rule : Rule) → free r cs ≤ at

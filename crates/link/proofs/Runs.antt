@@ -29,16 +29,15 @@ use Rattle.rules.specs.Choice.{hasCurve}
 use Rattle.rules.specs.Lawful.{LawfulCalls, Grown, right}
 use Rattle.rules.specs.Rows.{treeA}
 use Rattle.rules.proofs.Tests.{never}
-use Rattle.rules.proofs.Rows.{rows-hold}
+use Rattle.rules.proofs.Examples.{right-A}
 use Rattle.link.specs.Link.{heaviest, free, Link}
 use Rattle.link.specs.Guarantee.{Moment, now, after, Head, LeftBy}
 use Rattle.link.specs.Runs.{Premises, runA, historyA, lateTree, lateRun, lateHistory, Attained, Shown, Sharp}
 use Rattle.link.proofs.Told.{every, headDue, deadline-told, lawful, lawful-told, keeps, keeps-told}
 use Rattle.link.proofs.Guarantee.{guarantee}
 
--- tree A is right, as the table's first row says
 grown-A : Grown treeA
-grown-A = rows-hold .0 .0 .grown
+grown-A = right right-A
 
 lawful-A : LawfulCalls treeA runA
 unfolding lawful every classAt isChild childBelow hasChild isLeaf clock queue accepted weigh sentRealTime pieces standing amount anyOf largestOf smallestOf isMet sent active roundedUp virtualTime isOther meeting fairPieces
