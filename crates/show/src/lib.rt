@@ -1,7 +1,8 @@
 // Prints trees, one line a class, and refusals, as docs/FORMS.md sets down.
 use curve::Curve;
 use libc::STDOUT_FILENO;
-use tree::{Refusal, Tree};
+use tree::Refusal;
+use tree::Tree;
 
 // A word of text.
 pub fn text(bytes: &[u8]) {

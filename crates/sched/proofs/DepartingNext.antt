@@ -1,0 +1,290 @@
+-- The leaf after its head left: the next head's times, or the leaf turns passive.
+-- Assumes nothing.
+use Prim.Native.Nat.{ℕ, _+_, _*_, _%_, _≤_, _<_}
+use mathlib.Core.Path.{_≡_, refl, sym, _∙_, ap, subst}
+use mathlib.Core.Bool.{true, false}
+use mathlib.Core.List.{List, [], _∷_}
+use native.Mathlib.Omega.{arith}
+use lib.ListN.{length, getD}
+use Rattle.curve.specs.Answers.{Least}
+use Rattle.curve.specs.Pieces.{BothStand, early}
+use Rattle.curve.specs.declared.Curve.{Curve}
+use Rattle.curve.specs.declared.Kept.{Kept}
+use Rattle.tree.specs.declared.Tree.{Tree}
+use Rattle.tree.specs.Trees.{curveOf}
+use Rattle.rules.specs.declared.Rule.{Rule}
+use Rattle.rules.specs.declared.Rule.the-variants.{RealTime, Fair}
+use Rattle.rules.specs.Limits.{longest, weigh}
+use Rattle.rules.specs.Calls.{Call, left}
+use Rattle.rules.specs.Queues.{queue, tailOf, isNonempty, waits, headLength, headNumber, nextNumber}
+use Rattle.rules.specs.Leaves.{sentRealTime, pieces, DeadlineOf, EligibleOf}
+use Rattle.rules.specs.Choice.{hasCurve}
+use Rattle.rules.specs.Lawful.{LawfulCalls, Grown, right}
+use Rattle.rules.proofs.Tests.{never, is-false, and-left, and-right, and-both}
+use Rattle.rules.proofs.Trees.{leaf-class, curve-rising}
+use Rattle.rules.proofs.Queues.{queue-left, waits-leaf, head-length}
+use Rattle.rules.proofs.Active.{choice-waits, numbers}
+use Rattle.rules.proofs.Sent.{weigh-some, c-below-w, w-most}
+use Rattle.rules.proofs.Leaves.{pieces-in-order, has-piece}
+use Rattle.sched.specs.Table.{at, with}
+use Rattle.sched.specs.Columns.{KIND, CAME, LEFT, BYTES-RT, STEEP-START, STEEP-SENT, FLAT-START, FLAT-SENT, ELIGIBLE, DEADLINE, ACTIVE, NEVER}
+use Rattle.sched.specs.State.{keptFor, hasTimes, ShowsTree}
+use Rattle.sched.specs.Steps.{curveIn, keptIn, RipeStored, DueStored, Planted, BeforeRest, AfterRest}
+use Rattle.sched.specs.StepsA.{LeafOnly}
+use Rattle.sched.specs.StepsD.{Timable, Ripened, NextTimed, untimed, timed, ShowsTimes, BeforeSettle, AfterSettle}
+use Rattle.sched.proofs.Cells.{at-with-same, at-with-column}
+use Rattle.sched.proofs.LeafCells.{kind-none, kind-some, curve-in, narrow-curve, curve-rises, kept-curved, kept-soon, tree-cells, only-none, only-with, only-then, curve-same, kept-same}
+use Rattle.sched.proofs.Resting.{still-active}
+use Rattle.sched.proofs.Choosing.{count-most}
+use Rattle.sched.proofs.Departing.{kept-stay, pieces-stay, bytes-fair, head-at, deadline-from, eligible-from}
+
+some-nonempty : (ns : List ℕ) → 0 < length ns → isNonempty ns ≡ true
+some-nonempty [] l = absurd (omega arith)
+some-nonempty (n ∷ ns) l = refl
+
+nonempty-some : (ns : List ℕ) → isNonempty ns ≡ true → 0 < length ns
+nonempty-some [] e = never e refl
+nonempty-some (n ∷ ns) e = omega arith
+
+none-empty : (ns : List ℕ) → length ns ≡ 0 → isNonempty ns ≡ false
+none-empty [] e = refl
+none-empty (n ∷ ns) e = absurd (omega arith)
+
+only-one : (ns : List ℕ) → isNonempty ns ≡ true → length (tailOf ns) ≡ 0 → length ns ≡ 1
+only-one [] e l = never e refl
+only-one (n ∷ ns) e l = omega arith
+
+-- a store to the times of the leaf leaves the tree's columns
+pub planted-only : {m m′ : List ℕ} {tree : Tree} {cs : List Call} {j : ℕ} → LeafOnly m m′ j → Planted m tree cs → Planted m′ tree cs
+planted-only {tree = tree} only p =
+    record {
+      size = only .size;
+      right = p .right;
+      lawful = p .lawful;
+      trees = λ k l. tree-cells (λ f one f9. only .columns k f (omega (arith, count-most tree (right (p .right)))) (omega arith)) (p .trees k l);
+    }
+
+stands-is : {S S′ : Curve} {K K′ : Kept} {y y′ d : ℕ} → S ≡ S′ → K ≡ K′ → y ≡ y′ → Least (BothStand S K y) d → Least (BothStand S′ K′ y′) d
+stands-is {d = d} e f g h = subst (λ (x : Curve × Kept × ℕ). Least (BothStand (x .0) (x .1) (x .2)) d) (λ i. (e i, f i, g i)) h
+
+module _ {m l : List ℕ} {tree : Tree} {cs : List Call} {j t : ℕ} {r : Rule} (b : BeforeSettle m l tree cs j t r) where
+  grown : Grown tree
+  grown = right (b .planted .right)
+
+  lawful : LawfulCalls tree (left t j r ∷ cs)
+  unfolding LawfulCalls
+  lawful = (b .allowed, b .planted .lawful)
+
+  waiting : waits cs j ≡ true
+  waiting = choice-waits tree grown cs t j r (b .allowed .1)
+
+  class : j < tree .count
+  class = leaf-class tree j (waits-leaf tree cs (b .planted .lawful) j waiting)
+
+  pub settle-class : j < 64
+  settle-class = omega (arith, class, count-most tree grown)
+
+  numbered : headNumber (left t j r ∷ cs) j + length (queue (left t j r ∷ cs) j) ≡ nextNumber (left t j r ∷ cs) j
+  numbered = numbers tree grown (left t j r ∷ cs) lawful j
+
+  -- whether a packet waits is read off the two counts
+  pub next-waits : at m j LEFT < at m j CAME → waits (left t j r ∷ cs) j ≡ true
+  next-waits less = some-nonempty (queue (left t j r ∷ cs) j) (omega (arith, numbered, b .number, b .next))
+
+  pub none-waits : at m j CAME ≤ at m j LEFT → waits (left t j r ∷ cs) j ≡ false
+  none-waits less = none-empty (queue (left t j r ∷ cs) j) (omega (arith, numbered, b .number, b .next))
+
+  -- the next head's length is in its slot
+  pub next-length : waits (left t j r ∷ cs) j ≡ true → getD l (64 * j + at m j LEFT % 64) 0 ≡ headLength (left t j r ∷ cs) j
+  next-length still =
+      let place : at m j LEFT ≡ headNumber (left t j r ∷ cs) j + 0 = omega (arith, b .number) in
+      ap (λ (x : ℕ). getD l (64 * j + x % 64) 0) place
+      ∙ b .slots .waiting 0 (nonempty-some (queue (left t j r ∷ cs) j) still)
+      ∙ head-at (queue (left t j r ∷ cs) j)
+
+  pub next-short : waits (left t j r ∷ cs) j ≡ true → headLength (left t j r ∷ cs) j ≤ longest
+  next-short still = head-length tree (left t j r ∷ cs) lawful j still .1
+
+  shows : ShowsTree m tree j
+  shows = b .planted .trees j class
+
+  curved : (at m j KIND ≡ 0 → ⊥) → hasCurve (curveOf tree j) ≡ true
+  curved some = kind-some (curveOf tree j) (λ e. some (shows .kind ∙ e))
+
+  bare : at m j KIND ≡ 0 → hasCurve (curveOf tree j) ≡ false
+  bare e = kind-none (curveOf tree j) (sym (shows .kind) ∙ e)
+
+  pub next-timable : (n : ℕ) → n ≤ longest → (at m j KIND ≡ 0 → ⊥) → Timable m j n
+  next-timable n short some =
+      record {
+        narrow = narrow-curve (b .planted .right) class shows;
+        rising = curve-rises (b .planted .right) class shows (curved some);
+        bytes = omega (arith, b .bytes, c-below-w tree grown (left t j r ∷ cs) j, w-most tree grown (left t j r ∷ cs) lawful j);
+        kept = kept-soon tree cs (b .planted .lawful) (b .kept);
+        short = short;
+      }
+
+  kept-after : keptIn m j ≡ keptFor tree (left t j r ∷ cs) j
+  kept-after = b .kept ∙ sym (kept-stay t j r cs tree j)
+
+  -- the leaf still holds a packet: all are as active as before
+  settled-only : {m′ : List ℕ} → LeafOnly m m′ j → keptIn m′ j ≡ keptIn m j → ShowsTimes m′ tree (left t j r ∷ cs) j → waits (left t j r ∷ cs) j ≡ true
+      → AfterSettle m m′ tree cs j t r
+  settled-only only kept times still =
+      record {
+        size = only .size;
+        columns = only .columns;
+        others = λ k f l f18 n. only .others k f l (omega arith) n;
+        fairs = λ k f l low high. only .fairs k f l low (omega arith);
+        rows = λ k f out l f24. only .others k f l f24 (λ e. omega (arith, class));
+        kept = kept ∙ kept-after;
+        times = times;
+        actives = λ k l.
+            only .fairs k ACTIVE (omega (arith, count-most tree grown)) (omega arith) (omega arith)
+            ∙ b .actives k l
+            ∙ sym (still-active tree grown cs (b .planted .lawful) j waiting t r still k);
+      }
+
+  -- what is known once the eligible time is in place
+  pub record Ripe (mid : List ℕ) : Type 0 where
+    pub only : LeafOnly m mid j
+    pub kept : keptIn mid j ≡ keptIn m j
+    pub eligible : EligibleOf tree (left t j r ∷ cs) j (at mid j ELIGIBLE)
+
+  module _ (some : at m j KIND ≡ 0 → ⊥) (still : waits (left t j r ∷ cs) j ≡ true) where
+    has : hasTimes tree (left t j r ∷ cs) j ≡ true
+    has = and-both (waits (left t j r ∷ cs) j) (hasCurve (curveOf tree j)) still (curved some)
+
+    eligible-anew : (e : ℕ) → Least (BothStand (early (curveIn m j)) (keptIn m j) (at m j BYTES-RT)) e → EligibleOf tree (left t j r ∷ cs) j e
+    eligible-anew e least =
+        let order = pieces-in-order tree (left t j r ∷ cs) lawful j in
+        eligible-from (curveOf tree j) (curve-rising tree grown j class (curved some)) (pieces (left t j r ∷ cs) j) (has-piece (left t j r ∷ cs) j still) (order .order)
+        (sentRealTime (left t j r ∷ cs) j) (order .sent)
+        (stands-is (ap early (curve-in shows)) (kept-after ∙ kept-curved tree (left t j r ∷ cs) j (curved some)) (b .bytes) least)
+
+    ripe-anew : {mid : List ℕ} → RipeStored m mid j → Ripe mid
+    ripe-anew s =
+        subst Ripe (sym (s .stored))
+        (record {
+          only = only-with m j ELIGIBLE (s .eligible) (b .planted .size) settle-class (omega arith) (omega arith);
+          kept = kept-same m j ELIGIBLE (s .eligible) settle-class (omega arith);
+          eligible =
+              subst (EligibleOf tree (left t j r ∷ cs) j)
+              (sym (at-with-same m j ELIGIBLE (s .eligible) (b .planted .size) settle-class (omega arith)))
+              (eligible-anew (s .eligible) (s .isEligible));
+        })
+
+    settled-due : (n : ℕ) → n ≡ headLength (left t j r ∷ cs) j → {mid m′ : List ℕ} → Ripe mid → DueStored mid m′ j n → AfterSettle m m′ tree cs j t r
+    settled-due n head {mid} ripe s =
+        let order = pieces-in-order tree (left t j r ∷ cs) lawful j in
+        let bytes : at mid j BYTES-RT + weigh n ≡ sentRealTime (left t j r ∷ cs) j + weigh (headLength (left t j r ∷ cs) j) =
+        omega (arith, ripe .only .columns j BYTES-RT settle-class (omega arith), b .bytes, ap weigh head)
+        in
+        let due : DeadlineOf tree (left t j r ∷ cs) j (s .deadline) =
+        deadline-from (curveOf tree j) (curve-rising tree grown j class (curved some)) (pieces (left t j r ∷ cs) j) (has-piece (left t j r ∷ cs) j still) (order .order)
+        (sentRealTime (left t j r ∷ cs) j) (weigh (headLength (left t j r ∷ cs) j)) (order .sent)
+        (weigh-some (headLength (left t j r ∷ cs) j) (head-length tree (left t j r ∷ cs) lawful j still .0))
+        (stands-is (curve-same settle-class (ripe .only) ∙ curve-in shows)
+        (ripe .kept ∙ kept-after ∙ kept-curved tree (left t j r ∷ cs) j (curved some)) bytes (s .isDeadline))
+        in
+        let size = ripe .only .size in
+        subst (λ (x : List ℕ). AfterSettle m x tree cs j t r) (sym (s .stored))
+        (settled-only
+        (only-then (ripe .only) (only-with mid j DEADLINE (s .deadline) size settle-class (omega arith) (omega arith)))
+        (kept-same mid j DEADLINE (s .deadline) settle-class (omega arith) ∙ ripe .kept)
+        (record {
+          eligible = λ e.
+              subst (EligibleOf tree (left t j r ∷ cs) j)
+              (sym (at-with-column mid j DEADLINE (s .deadline) j ELIGIBLE settle-class settle-class (λ q. omega arith))) (ripe .eligible);
+          deadline = λ e.
+              subst (DeadlineOf tree (left t j r ∷ cs) j) (sym (at-with-same mid j DEADLINE (s .deadline) size settle-class (omega arith))) due;
+          never = λ e. never has e;
+          noDeadline = λ e. never has e;
+        })
+        still)
+
+  -- a leaf with no curve has no times
+  settled-bare : at m j KIND ≡ 0 → waits (left t j r ∷ cs) j ≡ true → AfterSettle m m tree cs j t r
+  settled-bare e still =
+      let none = bare e in
+      let before : hasTimes tree cs j ≡ false = is-false (hasTimes tree cs j) (λ q. never (and-right (waits cs j) (hasCurve (curveOf tree j)) q) none) in
+      settled-only (only-none m j (b .planted .size)) refl
+      (record {
+        eligible = λ q. never (and-right (waits (left t j r ∷ cs) j) (hasCurve (curveOf tree j)) q) none;
+        deadline = λ q. never (and-right (waits (left t j r ∷ cs) j) (hasCurve (curveOf tree j)) q) none;
+        never = λ q. b .times .never before;
+        noDeadline = λ q. b .times .noDeadline before;
+      })
+      still
+
+  -- the last packet has left: no times, and the leaf turns passive
+  pub settled-last : {m′ : List ℕ} → waits (left t j r ∷ cs) j ≡ false
+      → AfterRest (with (with m j ELIGIBLE NEVER) j DEADLINE 0) m′ tree cs j → AfterSettle m m′ tree cs j t r
+  settled-last {m′} empty rest =
+      let first = only-with m j ELIGIBLE NEVER (b .planted .size) settle-class (omega arith) (omega arith) in
+      let mid = with m j ELIGIBLE NEVER in
+      let only = only-then first (only-with mid j DEADLINE 0 (first .size) settle-class (omega arith) (omega arith)) in
+      let cell : (k f : ℕ) → k < 64 → f < 23 → at m′ k f ≡ at (with mid j DEADLINE 0) k f = λ k f l h. rest .others k f l (omega arith) (λ e. omega arith) in
+      let none : hasTimes tree (left t j r ∷ cs) j ≡ false =
+      is-false (hasTimes tree (left t j r ∷ cs) j) (λ q. never (and-left (waits (left t j r ∷ cs) j) (hasCurve (curveOf tree j)) q) empty)
+      in
+      record {
+        size = rest .alone .size;
+        columns = λ k f l h. cell k f l (omega arith) ∙ only .columns k f l h;
+        others = λ k f l h n. cell k f l (omega arith) ∙ only .others k f l (omega arith) n;
+        fairs = λ k f l low high. cell k f l high ∙ only .fairs k f l low (omega arith);
+        rows = λ k f out l h. rest .alone .rows k f out l h ∙ only .others k f l h (λ e. omega (arith, class));
+        kept =
+            (λ i. record {
+              steep = record { start = cell j STEEP-START settle-class (omega arith) i; sent = cell j STEEP-SENT settle-class (omega arith) i };
+              flat = record { start = cell j FLAT-START settle-class (omega arith) i; sent = cell j FLAT-SENT settle-class (omega arith) i };
+            })
+            ∙ kept-same mid j DEADLINE 0 settle-class (omega arith)
+            ∙ kept-same m j ELIGIBLE NEVER settle-class (omega arith)
+            ∙ kept-after;
+        times =
+            record {
+              eligible = λ e. never e none;
+              deadline = λ e. never e none;
+              never = λ e.
+                  cell j ELIGIBLE settle-class (omega arith)
+                  ∙ at-with-column mid j DEADLINE 0 j ELIGIBLE settle-class settle-class (λ q. omega arith)
+                  ∙ at-with-same m j ELIGIBLE NEVER (b .planted .size) settle-class (omega arith);
+              noDeadline = λ e. cell j DEADLINE settle-class (omega arith) ∙ at-with-same mid j DEADLINE 0 (first .size) settle-class (omega arith);
+            };
+        actives = λ k l. rest .actives t r k l;
+      }
+
+  pub before-rest : waits (left t j r ∷ cs) j ≡ false → at m j CAME ≤ at m j LEFT → BeforeRest (with (with m j ELIGIBLE NEVER) j DEADLINE 0) tree cs j
+  before-rest empty less =
+      let first = only-with m j ELIGIBLE NEVER (b .planted .size) settle-class (omega arith) (omega arith) in
+      let mid = with m j ELIGIBLE NEVER in
+      let only = only-then first (only-with mid j DEADLINE 0 (first .size) settle-class (omega arith) (omega arith)) in
+      record {
+        planted = planted-only only (b .planted);
+        waiting = waiting;
+        last = only-one (queue cs j) waiting (omega (arith, numbered, b .number, b .next, ap length (queue-left t j r cs)));
+        actives = λ k l. only .fairs k ACTIVE (omega (arith, count-most tree grown)) (omega arith) (omega arith) ∙ b .actives k l;
+      }
+
+-- the eligible time stays the same after a departure by the fair rule
+ripe-kept : {m l : List ℕ} {tree : Tree} {cs : List Call} {j t : ℕ} (b : BeforeSettle m l tree cs j t Fair) (some : at m j KIND ≡ 0 → ⊥) → Ripe b m
+ripe-kept {m} {l} {tree} {cs} {j} {t} b some =
+    record {
+      only = only-none m j (b .planted .size);
+      kept = refl;
+      eligible =
+          rw (pieces-stay t j Fair cs j, bytes-fair t j cs j)
+          (b .times .eligible (and-both (waits cs j) (hasCurve (curveOf tree j)) (waiting b) (curved b some)));
+    }
+
+pub ripe-next : {m l : List ℕ} {tree : Tree} {cs : List Call} {j t : ℕ} (r : Rule) (b : BeforeSettle m l tree cs j t r) (some : at m j KIND ≡ 0 → ⊥)
+    → waits (left t j r ∷ cs) j ≡ true → (mid : List ℕ) → Ripened r m mid j → Ripe b mid
+ripe-next RealTime b some still mid s = ripe-anew b some still s
+ripe-next Fair b some still mid e = subst (Ripe b) (sym e) (ripe-kept b some)
+
+pub settled-next : {m l m′ : List ℕ} {tree : Tree} {cs : List Call} {j t : ℕ} (r : Rule) (b : BeforeSettle m l tree cs j t r) (n : ℕ)
+    → n ≡ headLength (left t j r ∷ cs) j → waits (left t j r ∷ cs) j ≡ true → NextTimed m m′ j n r → AfterSettle m m′ tree cs j t r
+settled-next {m} {l} {m′} {tree} {cs} {j} {t} r b n head still (untimed e same) =
+    subst (λ (x : List ℕ). AfterSettle m x tree cs j t r) (sym same) (settled-bare b e still)
+settled-next r b n head still (timed some mid ripened due) = settled-due b some still n head (ripe-next r b some still mid ripened) due

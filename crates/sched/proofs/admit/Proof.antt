@@ -1,0 +1,152 @@
+-- `sched::admit` meets its contract: its tests are the checks 11, 12, 13 and 16, in their order, read off the table.
+-- Assumes nothing.
+use Prim.Native.Nat.{ℕ, _<_}
+use mathlib.Core.Path.{_≡_, sym, _∙_}
+use mathlib.Core.Bool.{true}
+use mathlib.Core.List.{List}
+use native.Mathlib.Omega.{arith}
+use borrow.Author.Needs.{needs}
+use Rattle.tree.specs.Trees.{isLeaf}
+use Rattle.rules.specs.Limits.{weigh}
+use Rattle.rules.specs.Calls.{History}
+use Rattle.rules.specs.Lawful.{Lawful}
+use Rattle.rules.proofs.Sent.{accepted-most}
+use Rattle.sched.specs.State.{Shows}
+use Rattle.sched.proofs.LeafCells.{weigh-small}
+use Rattle.sched.proofs.Arriving.{no-such-leaf, too-short, too-long, leaf-full, bytes-full, all-pass, class-narrow, leaf-shown, interior-shown, absent-shown, waiting-shown}
+use Rattle.sched.proofs.admit.Statement.{statement}
+use Rattle.sched.proofs.admit.Tie as tie
+
+-- the class is one of the tree
+below : (c : tie.Else1) (h : History) (l : List ℕ) → Lawful h → Shows (c .before .before .args .words .now) l h → c .before .before .args .class < h .tree .count
+below c h l law s = omega (arith, s .header .count, c .before .get .ensures, c .if1 .left)
+
+-- and it is a leaf
+leaf : (c : tie.Else2) (h : History) (l : List ℕ) → Lawful h → Shows (c .before .before .before .before .args .words .now) l h
+    → isLeaf (h .tree) (c .before .before .before .before .args .class) ≡ true
+leaf c h l law s = leaf-shown law s (c .before .before .before .before .args .class) (below (c .before .before) h l law s) (sym (c .before .get2 .ensures) ∙ c .if2 .left)
+
+get-requires : tie.Need-get-requires
+get-requires c κs = search needs
+
+returns : tie.Need-returns
+returns c = λ h l law s.
+    let args = c .before .before .args in
+    no-such-leaf h (args .class) (args .length) (absent-shown law s (args .class) (omega (arith, c .before .get .ensures, c .if1 .taken)))
+
+get-requires-2 : tie.Need-get-requires-2
+get-requires-2 c κs =
+    let r = c .before .before .pre in
+    (class-narrow (r .reached .lawful) (r .reached .shows) (c .before .before .args .class) (below c (r .reached .history) (r .lengths) (r .reached .lawful) (r .reached .shows)), omega arith)
+
+returns-2 : tie.Need-returns-2
+returns-2 c = λ h l law s.
+    let args = c .before .before .before .before .args in
+    no-such-leaf h (args .class) (args .length) (interior-shown law s (args .class) (below (c .before .before) h l law s) (λ e. c .if2 .taken (c .before .get2 .ensures ∙ e)))
+
+returns-3 : tie.Need-returns-3
+returns-3 c = λ h l law s.
+    let args = c .before .before .before .before .before .args in
+    too-short h (args .class) (args .length) (leaf (c .before) h l law s) (c .if3 .taken)
+
+returns-4 : tie.Need-returns-4
+returns-4 c = λ h l law s.
+    let args = c .before .before .before .before .before .before .args in
+    too-long h (args .class) (args .length) (leaf (c .before .before) h l law s) (c .if4 .taken)
+
+get-requires-3 : tie.Need-get-requires-3
+get-requires-3 c κs =
+    let d = c .before .before .before .before in
+    let r = d .before .before .pre in
+    (class-narrow (r .reached .lawful) (r .reached .shows) (d .before .before .args .class) (below d (r .reached .history) (r .lengths) (r .reached .lawful) (r .reached .shows)), omega arith)
+
+get-requires-4 : tie.Need-get-requires-4
+get-requires-4 c κs =
+    let d = c .before .before .before .before .before in
+    let r = d .before .before .pre in
+    (class-narrow (r .reached .lawful) (r .reached .shows) (d .before .before .args .class) (below d (r .reached .history) (r .lengths) (r .reached .lawful) (r .reached .shows)), omega arith)
+
+sub-if5 : tie.Need-sub-if5
+sub-if5 c =
+    let d = c .before .before .before .before .before .before in
+    let r = d .before .before .pre in
+    omega (
+      arith,
+      waiting-shown (r .reached .lawful) (r .reached .shows) (d .before .before .args .class) (below d (r .reached .history) (r .lengths) (r .reached .lawful) (r .reached .shows)),
+      c .get4 .ensures,
+      c .before .get3 .ensures,
+    )
+
+returns-5 : tie.Need-returns-5
+returns-5 c = λ h l law s.
+    let g = c .before in
+    let four = g .before .before in
+    let d = four .before .before .before in
+    let args = d .before .before .before .args in
+    leaf-full h (args .class) (args .length) (leaf (four .before .before) h l law s) (four .before .if3 .left) (four .if4 .left)
+    (omega (arith, waiting-shown law s (args .class) (below (d .before) h l law s), g .get4 .ensures, g .before .get3 .ensures, c .if5 .taken))
+
+get-requires-5 : tie.Need-get-requires-5
+get-requires-5 c κs = search needs
+
+weigh-requires : tie.Need-weigh-requires
+weigh-requires c κs = search needs
+
+add-if6 : tie.Need-add-if6
+add-if6 c =
+    let read = c .before in
+    let four = read .before .before .before .before in
+    let start = four .before .before .before .before .before .before in
+    let r = start .pre .reached in
+    omega (
+      arith,
+      read .get5 .ensures,
+      c .weigh .ensures,
+      weigh-small (start .args .length) (four .if4 .left),
+      r .shows .header .bytes,
+      accepted-most (r .history .tree) (r .history .calls) (r .lawful .lawful),
+    )
+
+returns-6 : tie.Need-returns-6
+returns-6 c = λ h l law s.
+    let w = c .before in
+    let five = w .before .before in
+    let g = five .before in
+    let four = g .before .before in
+    let d = four .before .before .before in
+    let args = d .before .before .before .args in
+    bytes-full h (args .class) (args .length) (leaf (four .before .before) h l law s) (four .before .if3 .left) (four .if4 .left)
+    (omega (arith, waiting-shown law s (args .class) (below (d .before) h l law s), g .get4 .ensures, g .before .get3 .ensures, five .if5 .left))
+    (omega (arith, w .before .get5 .ensures, w .weigh .ensures, s .header .bytes, c .if6 .taken))
+
+returns-7 : tie.Need-returns-7
+returns-7 c = λ h l law s.
+    let w = c .before in
+    let five = w .before .before in
+    let g = five .before in
+    let four = g .before .before in
+    let d = four .before .before .before in
+    let args = d .before .before .before .args in
+    all-pass h (args .class) (args .length) (leaf (four .before .before) h l law s) (four .before .if3 .left) (four .if4 .left)
+    (omega (arith, waiting-shown law s (args .class) (below (d .before) h l law s), g .get4 .ensures, g .before .get3 .ensures, five .if5 .left))
+    (omega (arith, w .before .get5 .ensures, w .weigh .ensures, s .header .bytes, c .if6 .left))
+
+pub admit-spec : {M : Type 1} → statement M
+admit-spec =
+    tie.close
+    (tie.spec
+    get-requires
+    returns
+    get-requires-2
+    returns-2
+    returns-3
+    returns-4
+    get-requires-3
+    get-requires-4
+    sub-if5
+    returns-5
+    get-requires-5
+    weigh-requires
+    add-if6
+    returns-6
+    returns-7)

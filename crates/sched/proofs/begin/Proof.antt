@@ -1,0 +1,22 @@
+-- `sched::begin` meets its contract: the leaf's times, and then what turns active.
+-- Assumes nothing.
+use Rattle.sched.proofs.ArrivingTimes.{begin-waking, begin-done}
+use Rattle.sched.proofs.begin.Statement.{statement}
+use Rattle.sched.proofs.begin.Tie as tie
+
+time-first-requires : tie.Need-time-first-requires
+time-first-requires c κs = c .before .pre
+
+wake-requires : tie.Need-wake-requires
+wake-requires c κs =
+    let timed = c .before in
+    let pre = timed .before .before .pre in
+    record { tree = pre .tree; calls = pre .calls; before = begin-waking (pre .before) (timed .time-first .ensures (pre .tree) (pre .calls) (pre .before)) }
+
+returns : tie.Need-returns
+returns c = λ tree cs b.
+    let timing = c .before .before .time-first .ensures tree cs b in
+    begin-done b timing (c .wake .ensures tree cs (begin-waking b timing))
+
+pub begin-spec : {M : Type 1} → statement M
+begin-spec = tie.close (tie.spec time-first-requires wake-requires returns)
