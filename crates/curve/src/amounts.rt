@@ -1,7 +1,7 @@
 // What a curve has reached at a tick, its slopes, and whether its numbers are within the limits.
 use crate::Curve;
 ghost use mathlib.Core.Path.{_≡_};
-ghost use Prim.Native.Nat.{ℕ, _-_, _≤_, _<_, _^_};
+ghost use Prim.Native.Nat.{_-_, _<_, _^_};
 ghost use Rattle.curve.specs.Answers.{Exactly};
 ghost use Rattle.curve.specs.Curves.{Within, RightFront, RightDelay, RightCurve, amount};
 ghost use Rattle.curve.specs.Pieces.{firstSlope, lastSlope, early};

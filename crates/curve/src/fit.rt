@@ -3,7 +3,7 @@ use crate::Curve;
 use crate::amounts::last_slope;
 use crate::amounts::reached;
 ghost use mathlib.Core.Path.{_≡_};
-ghost use Prim.Native.Nat.{ℕ, _*_, _-_, _≤_, _<_, _^_};
+ghost use Prim.Native.Nat.{_*_, _-_, _≤_, _<_};
 ghost use Rattle.curve.specs.Answers.{Exactly};
 ghost use Rattle.curve.specs.Curves.{amount, inParts};
 ghost use Rattle.curve.specs.Fit.{CurvesFit, total, bendOf, slopes};

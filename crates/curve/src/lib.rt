@@ -1,10 +1,6 @@
 // Arithmetic on service curves: what a curve has reached, whether curves fit the link, the earliest
 // tick at which an amount is reached, and the pieces that are worth keeping. It knows nothing of
 // classes, packets or files.
-ghost use mathlib.Core.Path.{_≡_};
-ghost use Prim.Native.Nat.{ℕ, _≤_};
-ghost use Rattle.curve.specs.Answers.{Least, Exactly};
-ghost use Rattle.curve.specs.Curves.{RightCurve, Rising, Reaches, inParts, mostBytes};
 
 pub mod amounts;
 pub mod fit;
@@ -32,6 +28,3 @@ pub struct Kept {
     pub steep: Piece,
     pub flat: Piece,
 }
-
-// 65,536 parts are one byte per tick.
-pub const PARTS: u64 = 65536;

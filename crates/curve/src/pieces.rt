@@ -8,7 +8,7 @@ use crate::amounts::less;
 use crate::amounts::undelayed;
 use crate::search::earliest;
 ghost use mathlib.Core.Path.{_≡_};
-ghost use Prim.Native.Nat.{ℕ, _≤_, _<_};
+ghost use Prim.Native.Nat.{_≤_, _<_};
 ghost use Rattle.curve.specs.Answers.{Least};
 ghost use Rattle.curve.specs.Curves.{Rising, RightRate, mostBytes, mostStart};
 ghost use Rattle.curve.specs.Pieces.{Stands, BothStand, lowerOf, keptWith, early};

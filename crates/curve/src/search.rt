@@ -1,8 +1,7 @@
 // The earliest tick at which a curve has reached an amount.
 use crate::Curve;
 use crate::amounts::reached;
-ghost use mathlib.Core.Path.{_≡_};
-ghost use Prim.Native.Nat.{ℕ, _≤_, _<_, _^_};
+ghost use Prim.Native.Nat.{_≤_, _<_, _^_};
 ghost use Rattle.curve.specs.Answers.{Least};
 ghost use Rattle.curve.specs.Curves.{Rising, Reaches, amount, inParts, mostBytes};
 

@@ -36,7 +36,7 @@ use Rattle.sched.specs.Columns.{HEADER, CLOCK, STAMP, BYTES, COUNT, CHIL
 use Rattle.sched.specs.State.{hasTimes, ShowsLeaf, ShowsSlots, Shows, Reached}
 use Rattle.sched.specs.Promises.{ArriveRight}
 use Rattle.sched.specs.Steps.{keptIn, pickMoment, tickOf}
-use Rattle.sched.specs.StepsA.{leafChecks, BeforeBegin, AfterBegin, ShowsButClock, AcceptRight}
+use Rattle.sched.specs.StepsArriving.{leafChecks, BeforeBegin, AfterBegin, ShowsButClock, AcceptRight}
 use Rattle.sched.proofs.Cells.{length-with, at-with-same, at-with-class, at-with-column}
 use Rattle.sched.proofs.Chain.{childless-leaf, some-child-interior}
 use Rattle.sched.proofs.Choosing.{count-most}

@@ -27,7 +27,7 @@ use Rattle.sched.specs.Table.{at}
 use Rattle.sched.specs.Columns.{CAME, LEFT, BYTES-RT, STEEP-START, STEEP-SENT, FLAT-START, FLAT-SENT, ELIGIBLE, DEADLINE}
 use Rattle.sched.specs.State.{keptFor, hasTimes, ShowsLeaf}
 use Rattle.sched.specs.Steps.{keptIn}
-use Rattle.sched.specs.StepsA.{LeafTimed}
+use Rattle.sched.specs.StepsArriving.{LeafTimed}
 use Rattle.sched.proofs.LeafCells.{kept-in}
 
 -- the pieces after an arrival

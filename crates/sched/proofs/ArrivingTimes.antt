@@ -30,7 +30,7 @@ use Rattle.sched.specs.Table.{at}
 use Rattle.sched.specs.Columns.{KIND, BYTES-RT, ELIGIBLE, DEADLINE}
 use Rattle.sched.specs.State.{keptFor, ShowsTree}
 use Rattle.sched.specs.Steps.{curveIn, keptIn, withKept, DueStored, RipeStored, NarrowCurve, KeptSoon, BeforeWaking, AfterWaking}
-use Rattle.sched.specs.StepsA.{LeafOnly, BeforeBegin, AfterTiming, AfterBegin}
+use Rattle.sched.specs.StepsArriving.{LeafOnly, BeforeBegin, AfterTiming, AfterBegin}
 use Rattle.sched.proofs.Cells.{at-with-same, at-with-column}
 use Rattle.sched.proofs.LeafCells.{kind-none, kind-some, curve-in, narrow-curve, curve-rises, kept-curved, kept-bare, kept-soon, tree-cells, fair-cells, only-none, only-with, only-then, only-kept, kept-with, curve-same, kept-same}
 use Rattle.sched.proofs.ArrivingLeaf.{pieces-begun, unsent, kept-adds, head-begun, timed-cells}

@@ -30,7 +30,7 @@ use Rattle.sched.specs.declared.choice.Found.{Found}
 use Rattle.sched.specs.Table.{at}
 use Rattle.sched.specs.Columns.{ELIGIBLE, DEADLINE, CHILD, SIBLING, VIRTUAL, ACTIVE, NEVER}
 use Rattle.sched.specs.State.{hasTimes, nextSibling}
-use Rattle.sched.specs.StepsD.{Told, Soonest, Stepping, Lightest}
+use Rattle.sched.specs.StepsDeparting.{Told, Soonest, Stepping, Lightest}
 use Rattle.sched.proofs.Chain.{FoundChild, NextChild, first-child, next-sibling, next-found, next-none}
 use Rattle.sched.proofs.Resting.{zero-passive, passive-zero}
 

@@ -21,7 +21,7 @@ use Rattle.rules.proofs.Queues.{waits-leaf}
 use Rattle.rules.proofs.Active.{active-of}
 use Rattle.sched.specs.Table.{at}
 use Rattle.sched.specs.Columns.{CHILD, ACTIVE}
-use Rattle.sched.specs.StepsD.{Told, Stepping, Lightest, Descending}
+use Rattle.sched.specs.StepsDeparting.{Told, Stepping, Lightest, Descending}
 use Rattle.sched.proofs.Chain.{childless-leaf, some-child-interior, interior-child}
 use Rattle.sched.proofs.Choosing.{cell-passive, cell-active}
 

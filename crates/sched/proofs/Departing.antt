@@ -32,7 +32,7 @@ use Rattle.sched.specs.Table.{at, with}
 use Rattle.sched.specs.Columns.{KIND, RATE, BEND, LAST, CAME, BYTES-RT, STEEP-START, FLAT-START, ELIGIBLE, DEADLINE}
 use Rattle.sched.specs.State.{keptFor, ShowsLeaf, ShowsSlots}
 use Rattle.sched.specs.Steps.{curveBy, curveIn, RipeStored}
-use Rattle.sched.specs.StepsD.{counted, timesIn, Timable, Ripened}
+use Rattle.sched.specs.StepsDeparting.{counted, timesIn, Timable, Ripened}
 use Rattle.sched.proofs.Cells.{at-with-column}
 use Rattle.sched.proofs.ArrivingLeaf.{SameLeaf, leaf-cells}
 

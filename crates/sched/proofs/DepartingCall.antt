@@ -28,8 +28,8 @@ use Rattle.sched.specs.Columns.{HEADER, CLOCK, STAMP}
 use Rattle.sched.specs.State.{activity, ShowsFair, Shows, Reached}
 use Rattle.sched.specs.Promises.{DepartRight}
 use Rattle.sched.specs.Steps.{tickOf}
-use Rattle.sched.specs.StepsA.{ShowsButClock}
-use Rattle.sched.specs.StepsD.{Told, TakeRight}
+use Rattle.sched.specs.StepsArriving.{ShowsButClock}
+use Rattle.sched.specs.StepsDeparting.{Told, TakeRight}
 use Rattle.sched.proofs.Choosing.{count-most}
 use Rattle.sched.proofs.ArrivingLeaf.{SameLeaf, leaf-cells}
 use Rattle.sched.proofs.Arriving.{tick-refused, tick-kept, checks-after, tick-shown, clock-moved}

@@ -30,8 +30,8 @@ use Rattle.sched.specs.Table.{at, with}
 use Rattle.sched.specs.Columns.{KIND, CAME, LEFT, BYTES-RT, STEEP-START, STEEP-SENT, FLAT-START, FLAT-SENT, ELIGIBLE, DEADLINE, ACTIVE, NEVER}
 use Rattle.sched.specs.State.{keptFor, hasTimes, ShowsTree}
 use Rattle.sched.specs.Steps.{curveIn, keptIn, RipeStored, DueStored, Planted, BeforeRest, AfterRest}
-use Rattle.sched.specs.StepsA.{LeafOnly}
-use Rattle.sched.specs.StepsD.{Timable, Ripened, NextTimed, untimed, timed, ShowsTimes, BeforeSettle, AfterSettle}
+use Rattle.sched.specs.StepsArriving.{LeafOnly}
+use Rattle.sched.specs.StepsDeparting.{Timable, Ripened, NextTimed, untimed, timed, ShowsTimes, BeforeSettle, AfterSettle}
 use Rattle.sched.proofs.Cells.{at-with-same, at-with-column}
 use Rattle.sched.proofs.LeafCells.{kind-none, kind-some, curve-in, narrow-curve, curve-rises, kept-curved, kept-soon, tree-cells, only-none, only-with, only-then, curve-same, kept-same}
 use Rattle.sched.proofs.Resting.{still-active}

@@ -33,8 +33,8 @@ use Rattle.sched.specs.Table.{at, with}
 use Rattle.sched.specs.Columns.{HEADER, BYTES, COUNT, KIND, CAME, LEFT, BYTES-RT, STEEP-START, STEEP-SENT, FLAT-START, FLAT-SENT, ELIGIBLE, DEADLINE, ACTIVE}
 use Rattle.sched.specs.State.{hasTimes, ShowsLeaf, ShowsSlots, Shows}
 use Rattle.sched.specs.Steps.{BeforeRaise, AfterRaise}
-use Rattle.sched.specs.StepsA.{ShowsButClock}
-use Rattle.sched.specs.StepsD.{counted, pickTimes, timesIn, BeforeSettle, AfterSettle}
+use Rattle.sched.specs.StepsArriving.{ShowsButClock}
+use Rattle.sched.specs.StepsDeparting.{counted, pickTimes, timesIn, BeforeSettle, AfterSettle}
 use Rattle.sched.proofs.Cells.{length-with, at-with-same, at-with-class, at-with-column}
 use Rattle.sched.proofs.LeafCells.{kind-none, kind-some, kept-in, tree-cells, fair-cells}
 use Rattle.sched.proofs.RestingLift.{fair-left}

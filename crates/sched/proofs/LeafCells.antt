@@ -34,7 +34,7 @@ use Rattle.sched.specs.Table.{at, with}
 use Rattle.sched.specs.Columns.{PARENT, SHARE, KIND, RATE, BEND, LAST, CHILD, SIBLING, SENT, FAIR-START, FAIR-SENT, VIRTUAL, MARK, ACTIVE, STEEP-START, STEEP-SENT, FLAT-START, FLAT-SENT}
 use Rattle.sched.specs.State.{kindOf, secondRate, keptFor, noKept, ShowsTree, ShowsLeaf, ShowsFair}
 use Rattle.sched.specs.Steps.{curveBy, curveIn, keptIn, withKept, NarrowCurve, KeptSoon}
-use Rattle.sched.specs.StepsA.{LeafOnly}
+use Rattle.sched.specs.StepsArriving.{LeafOnly}
 use Rattle.sched.proofs.Cells.{length-with, at-with-same, at-with-class, at-with-column}
 
 -- a store after others

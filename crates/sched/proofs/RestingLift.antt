@@ -30,8 +30,8 @@ use Rattle.sched.specs.Table.{at, with}
 use Rattle.sched.specs.Columns.{PARENT, SHARE, SENT, FAIR-START, FAIR-SENT, VIRTUAL, MARK, ACTIVE}
 use Rattle.sched.specs.State.{ShowsFair, activity, fairKept}
 use Rattle.sched.specs.Steps.{BeforeRaise, AfterRaise}
-use Rattle.sched.specs.StepsW.{Raises, VirtualStored}
-use Rattle.sched.specs.StepsR.{BeforeLifting, AfterLifting}
+use Rattle.sched.specs.StepsWaking.{Raises, VirtualStored}
+use Rattle.sched.specs.StepsResting.{BeforeLifting, AfterLifting}
 use Rattle.sched.proofs.Cells.{length-with, at-with-same, at-with-class, at-with-column}
 use Rattle.sched.proofs.LeafCells.{weigh-small}
 use Rattle.sched.proofs.RestingSteps.{planted-with}

@@ -24,7 +24,7 @@ use Rattle.sched.specs.Table.{at, with}
 use Rattle.sched.specs.Columns.{ACTIVE, PARENT}
 use Rattle.sched.specs.State.{activity}
 use Rattle.sched.specs.Steps.{Planted, BeforeRest, AfterRest}
-use Rattle.sched.specs.StepsR.{isAbove, BeforePassing, AfterPassing}
+use Rattle.sched.specs.StepsResting.{isAbove, BeforePassing, AfterPassing}
 use Rattle.sched.proofs.Cells.{length-with, at-with-same, at-with-class, at-with-column}
 use Rattle.sched.proofs.LeafCells.{tree-cells}
 use Rattle.sched.proofs.Resting.{passive-zero, passive-after, activity-off, activity-falls, activity-above, activity-leaf}

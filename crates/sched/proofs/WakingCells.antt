@@ -14,7 +14,7 @@ use Rattle.tree.specs.declared.Tree.{Tree}
 use Rattle.sched.specs.Table.{at, with}
 use Rattle.sched.specs.Columns.{SHARE, SENT, FAIR-START, FAIR-SENT, VIRTUAL, MARK, ACTIVE}
 use Rattle.sched.specs.Steps.{fairIn}
-use Rattle.sched.specs.StepsW.{Raises, VirtualStored, markIn, keptNow, metIn, BeforeStart, FairStarted}
+use Rattle.sched.specs.StepsWaking.{Raises, VirtualStored, markIn, keptNow, metIn, BeforeStart, FairStarted}
 use Rattle.sched.proofs.Cells.{length-with, at-with-same, at-with-class, at-with-column}
 use Rattle.sched.proofs.WakingChildren.{met-soon, lower-start}
 

@@ -20,7 +20,7 @@ use Rattle.rules.proofs.Trees.{child-class, child-some}
 use Rattle.sched.specs.declared.fair.Spread.{Spread}
 use Rattle.sched.specs.Table.{at}
 use Rattle.sched.specs.Columns.{CHILD, SIBLING, VIRTUAL}
-use Rattle.sched.specs.StepsW.{otherIn, othersIn, spreadWith, spreadBelow, metIn, Family, HasFamily}
+use Rattle.sched.specs.StepsWaking.{otherIn, othersIn, spreadWith, spreadBelow, metIn, Family, HasFamily}
 use Rattle.sched.proofs.Chain.{NextChild, FoundChild, NoChild, first-child, next-sibling}
 
 small : (v : ℕ) → v ≤ mostStart → min v (2 ^ 64 - 1) ≡ v

@@ -34,7 +34,7 @@ use Rattle.rules.proofs.Fair.{startOf, pieces-turned, pieces-kept, starts-at-ma
 use Rattle.sched.specs.Table.{at}
 use Rattle.sched.specs.Columns.{VIRTUAL, ACTIVE}
 use Rattle.sched.specs.State.{ShowsFair, countOf, activity, fairKept}
-use Rattle.sched.specs.StepsW.{otherIn, othersIn, metIn}
+use Rattle.sched.specs.StepsWaking.{otherIn, othersIn, metIn}
 use Rattle.sched.proofs.Resting.{count-same, count-one, activity-leaf, activity-interior, parent-interior, zero-passive, passive-zero}
 use Rattle.sched.proofs.RestingFair.{kept-virtual, active-started}
 

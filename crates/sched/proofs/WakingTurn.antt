@@ -29,7 +29,7 @@ use Rattle.sched.specs.Table.{at, with}
 use Rattle.sched.specs.Columns.{PARENT, SHARE, SENT, FAIR-START, FAIR-SENT, VIRTUAL, MARK, ACTIVE}
 use Rattle.sched.specs.State.{ShowsFair, countOf, activity, fairKept}
 use Rattle.sched.specs.Steps.{fairIn, Planted, LeftAlone, BeforeWaking, AfterWaking}
-use Rattle.sched.specs.StepsW.{Raises, Family, markIn, keptNow, metIn, BeforeStart, FairStarted, ShowsChild, BeforeTurn, AfterTurn}
+use Rattle.sched.specs.StepsWaking.{Raises, Family, markIn, keptNow, metIn, BeforeStart, FairStarted, ShowsChild, BeforeTurn, AfterTurn}
 use Rattle.sched.proofs.Cells.{length-with, at-with-same, at-with-class, at-with-column}
 use Rattle.sched.proofs.Resting.{activity-leaf, activity-interior, parent-interior, active-above}
 use Rattle.sched.proofs.RestingSteps.{planted-still, planted-with, some-of}

@@ -10,12 +10,12 @@ use crate::table::VIRTUAL;
 use crate::table::get;
 use rules::Rule;
 ghost use mathlib.Core.List.{List};
-ghost use Prim.Native.Nat.{ℕ, _≤_};
+ghost use Prim.Native.Nat.{_≤_};
 ghost use Rattle.tree.specs.declared.Tree.{Tree};
 ghost use Rattle.rules.specs.Calls.{Call};
 ghost use Rattle.rules.specs.Limits.{end};
 ghost use Rattle.rules.specs.Choice.{GoesDown};
-ghost use Rattle.sched.specs.StepsD.{Told, Readable, Soonest, Stepping, Steppable, Lightest, Descending, Descendable, Chosen};
+ghost use Rattle.sched.specs.StepsDeparting.{Told, Readable, Soonest, Stepping, Steppable, Lightest, Descending, Descendable, Chosen};
 
 pub enum Found {
     At(usize),

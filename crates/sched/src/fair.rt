@@ -15,14 +15,14 @@ use curve::Curve;
 use curve::Piece;
 ghost use mathlib.Core.Path.{_≡_};
 ghost use mathlib.Core.List.{List};
-ghost use Prim.Native.Nat.{ℕ, _≤_, _<_, min, max};
+ghost use Prim.Native.Nat.{ℕ, _<_, min, max};
 ghost use Rattle.tree.specs.declared.Tree.{Tree};
 ghost use Rattle.rules.specs.Calls.{Call};
 ghost use Rattle.curve.specs.Curves.{RightRate};
 ghost use Rattle.sched.specs.Table.{at};
 ghost use Rattle.sched.specs.Columns.{SHARE};
-ghost use Rattle.sched.specs.StepsW.{Raises, VirtualStored, otherIn, spreadWith, spreadBelow, metIn, Family, HasFamily, BeforeStart, Startable, FairStarted, BeforeTurn, AfterTurn, Turnable};
-ghost use Rattle.sched.specs.StepsR.{Passable, BeforePassing, AfterPassing, Liftable, BeforeLifting, AfterLifting};
+ghost use Rattle.sched.specs.StepsWaking.{Raises, VirtualStored, otherIn, spreadWith, spreadBelow, metIn, Family, HasFamily, BeforeStart, Startable, FairStarted, BeforeTurn, AfterTurn, Turnable};
+ghost use Rattle.sched.specs.StepsResting.{Passable, BeforePassing, AfterPassing, Liftable, BeforeLifting, AfterLifting};
 ghost use Rattle.sched.specs.Steps.{fairIn, Wakable, BeforeWaking, AfterWaking, Raisable, BeforeRaise, AfterRaise, Restable, BeforeRest, AfterRest};
 
 // Of a class's children: whether one is active, without the one that turns active, with the smallest

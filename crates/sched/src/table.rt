@@ -1,6 +1,6 @@
 // The state's table: column f of class i at 64·f + i. Only `get` and `put` compute a place.
 ghost use mathlib.Core.Path.{_≡_};
-ghost use Prim.Native.Nat.{ℕ, _≤_, _<_};
+ghost use Prim.Native.Nat.{_<_};
 ghost use Rattle.sched.specs.Table.{at, with};
 
 // The header's column, and its cells.

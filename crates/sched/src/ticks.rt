@@ -6,7 +6,7 @@ use crate::table::get;
 use crate::table::put;
 use tree::Refusal;
 ghost use mathlib.Core.Path.{_≡_};
-ghost use Prim.Native.Nat.{ℕ, _≤_, _<_, _^_};
+ghost use Prim.Native.Nat.{_≤_, _<_, _^_};
 ghost use Rattle.sched.specs.Table.{at, with};
 ghost use Rattle.sched.specs.Columns as col;
 ghost use Rattle.sched.specs.Steps.{tickOf};

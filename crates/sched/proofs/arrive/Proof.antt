@@ -6,7 +6,7 @@ use Rattle.rules.specs.Calls.{History}
 use Rattle.rules.specs.Lawful.{Lawful}
 use Rattle.rules.specs.Answers.{passed, outcome}
 use Rattle.sched.specs.State.{Shows}
-use Rattle.sched.specs.StepsA.{AdmissionRight, leafChecks}
+use Rattle.sched.specs.StepsArriving.{AdmissionRight, leafChecks}
 use Rattle.sched.proofs.Arriving.{clock-shown, stamp-shown, promised, tick-refuses, leaf-refuses, now-allowed, accepted-right}
 use Rattle.sched.proofs.arrive.Statement.{statement}
 use Rattle.sched.proofs.arrive.Tie as tie

@@ -14,8 +14,8 @@ use Rattle.sched.specs.Table.{at, with}
 use Rattle.sched.specs.Columns.{LEFT, BYTES-RT}
 use Rattle.sched.specs.State.{Shows}
 use Rattle.sched.specs.Steps.{BeforeRaise, AfterRaise}
-use Rattle.sched.specs.StepsA.{ShowsButClock}
-use Rattle.sched.specs.StepsD.{counted, BeforeSettle}
+use Rattle.sched.specs.StepsArriving.{ShowsButClock}
+use Rattle.sched.specs.StepsDeparting.{counted, BeforeSettle}
 use Rattle.sched.proofs.Cells.{at-with-column}
 use Rattle.sched.proofs.DepartingTake.{take-class, take-below, take-length, take-short, take-number, take-bytes, take-times, before-raise, before-settle, take-shows}
 use borrow.Author.Needs.{needs}

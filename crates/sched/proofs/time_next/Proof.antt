@@ -3,7 +3,7 @@
 use mathlib.Core.Path.{refl, sym, _∙_}
 use mathlib.Core.Logic.{⊎-elim}
 use native.Mathlib.Omega.{arith}
-use Rattle.sched.specs.StepsD.{Ripened, untimed, timed}
+use Rattle.sched.specs.StepsDeparting.{Ripened, untimed, timed}
 use Rattle.sched.proofs.Departing.{ripened-real, ripened-fair, timable-ripened}
 use borrow.Author.Needs.{needs}
 use Rattle.sched.proofs.time_next.Statement.{statement}

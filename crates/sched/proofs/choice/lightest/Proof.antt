@@ -7,7 +7,7 @@ use mathlib.Core.List.{List}
 use native.Mathlib.Omega.{arith}
 use Rattle.tree.specs.declared.Tree.{Tree}
 use Rattle.rules.specs.Calls.{Call}
-use Rattle.sched.specs.StepsD.{Stepping}
+use Rattle.sched.specs.StepsDeparting.{Stepping}
 use Rattle.sched.proofs.Choosing.{count-most, Walked, walked-is, walked-none, walked-below, walked-passive, walked-later, walked-first, walked-falls, lightest-right}
 use Rattle.sched.proofs.choice.lightest.Statement.{statement}
 use Rattle.sched.proofs.choice.lightest.Tie as tie

@@ -6,7 +6,7 @@ use mathlib.Core.Bool.{not}
 use lib.Dec.{eqb}
 use borrow.Author.Needs.{needs}
 use borrow.Author.Tests.{eq-eqb, ne-eqb}
-use Rattle.sched.specs.StepsW.{otherIn}
+use Rattle.sched.specs.StepsWaking.{otherIn}
 use Rattle.sched.proofs.fair.is_other.Statement.{statement}
 use Rattle.sched.proofs.fair.is_other.Tie as tie
 use Rattle.sched.proofs.fair.is_other.Reads as reads

@@ -5,7 +5,7 @@ use mathlib.Core.Path.{refl, _∙_, ap₂}
 use mathlib.Core.Bool.{Bool}
 use native.Mathlib.Omega.{arith}
 use Rattle.tree.specs.declared.Tree.{Tree}
-use Rattle.sched.specs.StepsW.{Family, spreadWith}
+use Rattle.sched.specs.StepsWaking.{Family, spreadWith}
 use Rattle.sched.proofs.WakingChildren.{Gathered, gathered-first, gathered-more, gathered-all, walk-narrow, walk-falls}
 use Rattle.sched.proofs.fair.spread_of.Statement.{statement}
 use Rattle.sched.proofs.fair.spread_of.Tie as tie

@@ -30,7 +30,7 @@ use Rattle.sched.specs.Table.{at, with}
 use Rattle.sched.specs.Columns.{HEADER, COUNT, KIND, CAME, LEFT, BYTES-RT, ELIGIBLE, DEADLINE, ACTIVE, NEVER}
 use Rattle.sched.specs.State.{keptFor, hasTimes, activity, ShowsTree, ShowsLeaf, ShowsFair, ShowsSlots, Shows}
 use Rattle.sched.specs.Steps.{curveIn, keptIn, NarrowCurve, KeptSoon, RipeStored, DueStored, Planted}
-use Rattle.sched.specs.StepsA.{ShowsButClock}
+use Rattle.sched.specs.StepsArriving.{ShowsButClock}
 
 -- the table tells of a tree and the calls so far: every column but the header's
 pub record Told (m : List ℕ) (tree : Tree) (cs : List Call) : Type 0 where
