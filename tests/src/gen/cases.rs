@@ -1,0 +1,166 @@
+//! Cases: a tree file and a file of calls; by seed, by hand, and for the stored corpus.
+
+use super::damage::{damaged_file, edge_files};
+use super::dice::Dice;
+use super::runs::{disciplined_run, full_run, late_run, loose_run, same_tick_run, Run};
+use super::trees::tree_a;
+use crate::curves::Curve;
+use crate::file::{file_of, Order};
+use crate::tree::{Class, Tree};
+
+/// A tree file and a file of calls.
+pub struct Case {
+    pub name: String,
+    pub tree_file: Vec<u8>,
+    pub calls: String,
+}
+
+/// Comments and blank lines here and there, and at times a line that is no call.
+fn as_text(dice: &mut Dice, lines: &[String]) -> String {
+    let mut text = String::new();
+    let chatty = dice.chance(1, 4);
+    let broken = if dice.chance(1, 20) { dice.below(lines.len() as u64) as usize } else { lines.len() };
+    for (number, line) in lines.iter().enumerate() {
+        if chatty && dice.chance(1, 12) {
+            text += dice.pick(&["\n", "# a comment\n", "#\n", "# depart 5\n"]);
+        }
+        if number == broken {
+            text += dice.pick(&["leave 5\n", "depart\n", "arrive 1 2\n", "depart 5 6\n", "depart x\n", "arrive 1 -2 3\n"]);
+        }
+        let tail = if chatty && dice.chance(1, 12) { " # so far" } else { "" };
+        text += &format!("{line}{tail}\n");
+    }
+    text
+}
+
+fn case_of_run(dice: &mut Dice, name: &str, run: &Run) -> Case {
+    let order = dice.pick(&[Order::Big, Order::Big, Order::Little]);
+    let tree_file = file_of(&run.state.history.tree, order);
+    Case { name: name.to_string(), tree_file, calls: as_text(dice, &run.lines) }
+}
+
+/// Calls that show what was read, should the file be right.
+const FEW_CALLS: &str = "start 5\narrive 6 1 500\narrive 6 2 900\ndepart 7\ndepart 8\ndepart 9\n";
+
+fn case_of_damage(dice: &mut Dice, number: u32) -> Case {
+    let tree_file = damaged_file(dice, number);
+    Case { name: format!("damaged-{number}"), tree_file, calls: FEW_CALLS.to_string() }
+}
+
+/// The case of a seed: mostly runs, now and then a damaged file, seldom a run to the top of the clock.
+pub fn case(seed: u64, calls: usize) -> Case {
+    let mut dice = Dice::new(seed);
+    let dice = &mut dice;
+    let calls = calls.max(8);
+    let (name, run) = match dice.below(40) {
+        0..=7 => {
+            let number = dice.between(1, 10);
+            return case_of_damage(dice, number);
+        }
+        8 => ("late", late_run(dice, calls / 4)),
+        9..=18 => ("link", disciplined_run(dice, calls)),
+        19..=22 => ("same-tick", same_tick_run(dice, calls)),
+        _ => ("loose", loose_run(dice, calls)),
+    };
+    case_of_run(dice, name, &run)
+}
+
+/// The files at the edge of each rule, each with a few calls.
+pub fn edges() -> Vec<Case> {
+    let case = |(name, tree_file)| Case { name: format!("edge-{name}"), tree_file, calls: FEW_CALLS.to_string() };
+    edge_files().into_iter().map(case).collect()
+}
+
+fn leaf(parent: u32, share: u32, curve: Curve) -> Class {
+    Class { parent, share, curve }
+}
+
+fn told(name: &str, tree: &Tree, calls: &[&str]) -> Case {
+    let calls = format!("{}\n", calls.join("\n"));
+    Case { name: name.to_string(), tree_file: file_of(tree, Order::Big), calls }
+}
+
+/// The situations of the document's example table.
+fn rows() -> Vec<Case> {
+    let a = tree_a();
+    let both = ["start 0", "arrive 0 1 500", "arrive 0 2 1000", "depart 0", "depart 500"];
+    vec![
+        told("row-5000", &a, &[&both[..], &["arrive 5000 1 500", "depart 5000"]].concat()),
+        told("row-600", &a, &[&both[..], &["arrive 600 1 500", "depart 600"]].concat()),
+        told("row-again", &a, &["start 0", "arrive 0 2 1000", "depart 0", "arrive 1000 2 1000", "depart 1000"]),
+        told("row-three", &a, &["start 0", "arrive 0 1 500", "arrive 0 1 500", "arrive 0 1 500", "depart 0", "depart 500", "depart 1000"]),
+        told("row-active", &a, &[&both[..], &["arrive 600 2 1000", "arrive 600 1 500", "depart 600", "depart 600", "depart 600"]].concat()),
+        told("row-round", &a, &["start 4294967290", "depart 10", "arrive 10 1 500", "depart 2147483658", "depart 2147483657"]),
+    ]
+}
+
+/// Runs on which a wrong reading of marks and virtual times shows.
+fn marks() -> Vec<Case> {
+    let plain = leaf(0, 65_536, Curve::None);
+    let even = Tree::under_root(&[plain, plain, plain]);
+    let kept = Tree::under_root(&[plain, plain, leaf(0, 65_536, Curve::Straight { m: 65_536 }), plain]);
+    let thirds = Tree::under_root(&[leaf(0, 49_152, Curve::None), plain]);
+    vec![
+        // Virtual times 100 and 101: half, rounded down, is 100, and leaf 1 has the lowest number there.
+        told("mark-half", &even, &[
+            "start 0", "arrive 0 2 100", "arrive 0 3 101", "arrive 0 2 50", "arrive 0 3 50", "depart 0", "depart 0", "arrive 0 1 10", "depart 0", "depart 0",
+        ]),
+        // The mark is 500 when leaf 4 starts; it does not fall back when leaf 1 starts, though the others ask for less.
+        told("mark-kept", &kept, &[
+            "start 0", "arrive 0 2 100", "arrive 0 2 100", "arrive 0 2 100", "arrive 0 2 100", "arrive 0 2 100", "arrive 0 2 100", "arrive 0 3 1000",
+            "depart 0", "arrive 0 3 1", "arrive 0 4 10", "depart 0", "depart 1000", "arrive 1000 1 10", "depart 1000", "depart 1000", "depart 1000", "depart 1000",
+            "depart 1000", "depart 1000", "depart 1000", "depart 1000",
+        ]),
+        // Leaf 1 alone turns active at its own last virtual time, 2, which was rounded up.
+        told("mark-own", &thirds, &[
+            "start 0", "arrive 0 1 1", "depart 0", "arrive 0 1 1", "arrive 0 1 1", "arrive 0 2 1", "arrive 0 2 1", "depart 0", "depart 0", "depart 0", "depart 0",
+        ]),
+    ]
+}
+
+/// Runs told by hand.
+pub fn by_hand() -> Vec<Case> {
+    rows().into_iter().chain(marks()).collect()
+}
+
+/// The cases of the stored corpus: some of each sort.
+pub fn corpus(seed: u64) -> Vec<Case> {
+    let mut dice = Dice::new(seed);
+    let dice = &mut dice;
+    let mut cases = by_hand();
+    cases.extend(edges());
+    for number in 1..=10 {
+        cases.push(case_of_damage(dice, number));
+    }
+    for _ in 0..14 {
+        let run = loose_run(dice, 120);
+        cases.push(case_of_run(dice, "loose", &run));
+    }
+    for _ in 0..8 {
+        let run = disciplined_run(dice, 120);
+        cases.push(case_of_run(dice, "link", &run));
+    }
+    for _ in 0..4 {
+        let run = same_tick_run(dice, 80);
+        cases.push(case_of_run(dice, "same-tick", &run));
+    }
+    let (late, full) = (late_run(dice, 30), full_run(dice));
+    cases.push(case_of_run(dice, "late", &late));
+    cases.push(case_of_run(dice, "full", &full));
+    cases
+}
+
+/// The sort of a printed line, for counts of what was seen.
+pub fn sort_of_answer(line: &str) -> String {
+    let words: Vec<&str> = line.split(' ').collect();
+    match words[..] {
+        ["refused", number, "class", _] => format!("tree refused {number}"),
+        ["refused", _] | ["none", "waits"] => line.to_string(),
+        ["packet", .., "rule", "fair"] => "fair without curve".to_string(),
+        ["packet", .., "rule", rule, "eligible", _, "deadline", _] => rule.to_string(),
+        ["line", _, "not", "a", "call"] => "not a call".to_string(),
+        [first, ..] => first.to_string(),
+        [] => String::new(),
+    }
+}
+

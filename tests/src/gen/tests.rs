@@ -1,0 +1,98 @@
+//! The generator makes what it says.
+
+use super::trees::{curved, raised};
+use super::*;
+use crate::calls::replay;
+use crate::file::read;
+use std::collections::BTreeMap;
+
+#[test]
+fn trees_are_right_and_varied() {
+    let (mut deepest, mut widest, mut tight) = (0, 0, 0);
+    for seed in 0..600 {
+        let tree = random_tree(&mut Dice::new(seed));
+        assert_eq!(tree.check(), Ok(()));
+        deepest = deepest.max((0..tree.count()).map(|class| tree.depth(class)).max().unwrap());
+        widest = widest.max(tree.count());
+        let one_more = |class: usize| {
+            let mut more = tree.clone();
+            more.classes[class].curve = raised(tree.curve(class), 1);
+            more.check_rules().is_ok() && more.check_fit().is_err()
+        };
+        tight += usize::from(curved(&tree).into_iter().any(one_more));
+    }
+    assert_eq!((deepest, widest), (8, 64));
+    assert!(tight > 100, "{tight}");
+}
+
+/// Each refusal that a file or a call can get turns up, and every sort of answer.
+#[test]
+fn cases_reach_every_answer() {
+    let mut seen: BTreeMap<String, usize> = BTreeMap::new();
+    for seed in 0..400 {
+        let case = case(seed, 120);
+        for line in replay(&case.tree_file, &case.calls).lines() {
+            *seen.entry(sort_of_answer(line)).or_default() += 1;
+        }
+    }
+    println!("{seen:?}");
+    for number in 1..=10 {
+        assert!(seen.contains_key(&format!("tree refused {number}")), "{number}: {seen:?}");
+    }
+    for sort in ["refused 11", "refused 12", "refused 13", "refused 14", "refused 15", "none waits", "real-time", "fair", "fair without curve", "accepted", "not a call"] {
+        assert!(seen.contains_key(sort), "{sort}: {seen:?}");
+    }
+}
+
+#[test]
+fn the_same_seed_gives_the_same_case() {
+    for seed in 0..20 {
+        let (one, two) = (case(seed, 60), case(seed, 60));
+        assert_eq!((one.tree_file, one.calls), (two.tree_file, two.calls));
+    }
+}
+
+#[test]
+fn damage_mostly_gives_the_refusal_aimed_at() {
+    for number in 1..=10 {
+        let hits = (0..100).filter(|&seed| {
+            let file = damaged_file(&mut Dice::new(900 + seed), number);
+            read(&file).err().is_some_and(|refusal| refusal.number == number)
+        });
+        let hits = hits.count();
+        assert!(hits >= 25, "{number}: {hits}");
+    }
+}
+
+/// At the edge of each rule the refusals come with the classes that they must name.
+#[test]
+fn edges_are_where_they_should_be() {
+    let answers: Vec<String> = edges().iter().map(|case| replay(&case.tree_file, &case.calls).lines().next().unwrap().to_string()).collect();
+    let count = |sort: &str| answers.iter().filter(|answer| answer.starts_with(sort)).count();
+    for number in 1..=10 {
+        assert!(count(&format!("refused {number} class")) >= 2, "{number}");
+    }
+    assert!(count("started") >= 15);
+    let of = |name: &str| edges().iter().position(|case| case.name == format!("edge-{name}")).map(|at| answers[at].as_str());
+    assert_eq!(of("classes-65"), Some("refused 4 class 0"));
+    assert_eq!(of("depth-9-and-inside"), Some("refused 8 class 9"));
+    assert_eq!(of("inside-and-fit"), Some("refused 9 class 2"));
+    assert_eq!(of("length-2-and-share-1"), Some("refused 6 class 2"));
+    assert_eq!(of("fit-late"), Some("started 3"));
+    assert_eq!(of("fit-late-over"), Some("refused 10 class 0"));
+}
+
+/// The runs told by hand go as their comments say.
+#[test]
+fn marks_by_hand() {
+    let classes = |name: &str| {
+        let cases = by_hand();
+        let case = cases.iter().find(|case| case.name == name).unwrap();
+        let printed = replay(&case.tree_file, &case.calls);
+        let class = |line: &str| line.strip_prefix("packet class ").and_then(|rest| rest[..1].parse::<u32>().ok());
+        printed.lines().filter_map(class).collect::<Vec<u32>>()
+    };
+    assert_eq!(classes("mark-half"), [2, 3, 1, 2]);
+    assert_eq!(classes("mark-own"), [1, 1, 2, 2, 1]);
+    assert_eq!(classes("mark-kept"), [3, 2, 3, 2, 2, 2, 2, 1, 2, 4]);
+}

@@ -1,0 +1,11 @@
+//! Document 01 once more, as a plain model: nothing here is fast or small, and nothing is shared with
+//! the product. The whole history is kept, and what the document defines is worked out from it when asked.
+
+#![forbid(unsafe_code)]
+
+pub mod calls;
+pub mod curves;
+pub mod file;
+pub mod gen;
+pub mod history;
+pub mod tree;
