@@ -1,0 +1,91 @@
+-- `calls::number` meets its contract: the number is what the digits left make after those passed, and once too large it stays so.
+-- Assumes nothing.
+use Prim.Native.Nat.{_+_, _-_, _*_, _^_, _≤_, _<_}
+use native.Mathlib.Omega.{arith}
+use mathlib.Core.Path.{_≡_, sym, _∙_}
+use lib.ListN.{length, getD, drop}
+use borrow.Author.Needs.{needs}
+use Rattle.calls.specs.Numbers.{numberFrom, numberOf}
+use Rattle.calls.proofs.Digits.{number-passed, number-on, number-low, number-high, number-ends, number-some, number-none, nonzero}
+use Rattle.calls.proofs.number.Statement.{statement}
+use Rattle.calls.proofs.number.Tie as tie
+
+abbrev Inv-loop : tie.InvT-loop
+Inv-loop word value₀ i₀ value i = ((i ≤ length word) × (value < 2 ^ 32)) × (numberOf word ≡ numberFrom value (drop i word))
+
+abbrev μ-loop : tie.MeasureT-loop
+μ-loop word value₀ i₀ value i = length word - i
+
+returns : tie.Need-returns Inv-loop μ-loop
+returns c = sym (number-none (c .before .before .args .word .now) (c .if1 .taken))
+
+loop-holds : tie.Need-loop-holds Inv-loop μ-loop
+loop-holds c = ((omega arith, omega arith), number-some (c .before .before .args .word .now) (omega (arith, nonzero _ (c .if1 .left))))
+
+shared-slice-read-b : tie.Need-shared-slice-read-b Inv-loop μ-loop
+shared-slice-read-b c = omega arith
+
+returns-2 : tie.Need-returns-2 Inv-loop μ-loop
+returns-2 c =
+    sym (c .before .before .before .loop .inv .1 ∙ number-low _ (c .before .before .before .before .before .before .args .word .now) (c .before .before .before .loop .i) (omega arith) (c .if2 .taken))
+
+returns-3 : tie.Need-returns-3 Inv-loop μ-loop
+returns-3 c =
+    sym (c .before .before .before .before .loop .inv .1 ∙ number-high _ (c .before .before .before .before .before .before .before .args .word .now) (c .before .before .before .before .loop .i) (omega arith) (c .before .if2 .left) (c .if3 .taken))
+
+mul-value : tie.Need-mul-value Inv-loop μ-loop
+mul-value c = omega arith
+
+wide-requires : tie.Need-wide-requires Inv-loop μ-loop
+wide-requires c κs = tt
+
+add-value : tie.Need-add-value Inv-loop μ-loop
+add-value c = omega (arith, c .wide .ensures)
+
+returns-4 : tie.Need-returns-4 Inv-loop μ-loop
+returns-4 c =
+    let s = c .before .before .before .before .before .before .before .before .before .args .word .now in
+    let l = c .before .before .before .before .before .before .loop in
+    let on = number-on (l .value) s (l .i) (omega arith) (c .before .before .before .if2 .left) (c .before .before .if3 .left) in
+    let big : 2 ^ 32 ≤ 10 * l .value + (getD s (l .i) 0 - 48) = omega (arith, c .before .wide .ensures) in
+    sym (l .inv .1 ∙ on ∙ number-passed _ (drop (l .i + 1) s) big)
+
+add-i : tie.Need-add-i Inv-loop μ-loop
+add-i c = omega arith
+
+loop-less : tie.Need-loop-less Inv-loop μ-loop
+loop-less c = omega arith
+
+loop-again : tie.Need-loop-again Inv-loop μ-loop
+loop-again c =
+    let s = c .before .before .before .before .before .before .before .before .before .args .word .now in
+    let l = c .before .before .before .before .before .before .loop in
+    let on = number-on (l .value) s (l .i) (omega arith) (c .before .before .before .if2 .left) (c .before .before .if3 .left) in
+    ((omega arith, omega arith), l .inv .1 ∙ rw (c .before .wide .ensures) on)
+
+cast-t13 : tie.Need-cast-t13 Inv-loop μ-loop
+cast-t13 c = omega arith
+
+returns-5 : tie.Need-returns-5 Inv-loop μ-loop
+returns-5 c = sym (c .before .loop .inv .1 ∙ number-ends _ (c .before .before .before .before .args .word .now) (c .before .loop .i) (omega arith) (omega arith))
+
+pub number-spec : {M : Type 1} → statement M
+number-spec =
+    tie.close
+    (tie.spec
+    Inv-loop
+    μ-loop
+    returns
+    loop-holds
+    shared-slice-read-b
+    returns-2
+    returns-3
+    mul-value
+    wide-requires
+    add-value
+    returns-4
+    add-i
+    loop-less
+    loop-again
+    cast-t13
+    returns-5)

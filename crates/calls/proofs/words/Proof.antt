@@ -1,0 +1,100 @@
+-- `calls::words` meets its contract: the first word is compared with each name in turn.
+-- Assumes nothing.
+use Prim.Native.Nat.{ℕ}
+use mathlib.Core.List.{List}
+use mathlib.Core.Path.{_≡_, sym, ap, _∙_}
+use lib.ListN.{length}
+use borrow.Author.Needs.{needs}
+use Rattle.calls.specs.declared.Line.the-variants.{Start, Depart}
+use Rattle.calls.specs.Words.{same}
+use Rattle.calls.specs.Lines.{startName, arriveName, departName, stampIn, arriveIn}
+use Rattle.calls.proofs.Named.{words-none, words-start, words-arrive, words-depart, words-other}
+use Rattle.calls.proofs.words.Statement.{statement}
+use Rattle.calls.proofs.words.Tie as tie
+
+word-requires : tie.Need-word-requires
+word-requires c κs = search needs
+
+returns : tie.Need-returns
+returns c = words-none (c .before .before .before .args .text .now) (sym (ap length (c .before .word .ensures)) ∙ c .if1 .taken)
+
+slice-aggregate-is : tie.Need-slice-aggregate-is
+slice-aggregate-is c = search needs
+
+is-requires : tie.Need-is-requires
+is-requires c κs = search needs
+
+behind-requires : tie.Need-behind-requires
+behind-requires c κs = search needs
+
+start-requires : tie.Need-start-requires
+start-requires c κs = search needs
+
+returns-2 : tie.Need-returns-2
+returns-2 c =
+    c .start .ensures ∙ ap (stampIn Start) (c .before .behind .ensures)
+    ∙ words-start (c .before .before .before .before .before .before .before .before .args .text .now) (λ z. c .before .before .before .before .before .if1 .left (ap length (c .before .before .before .before .before .before .word .ensures) ∙ z)) (sym (c .before .before .before .is .ensures ∙ ap (λ n. same n startName) (c .before .before .before .before .before .before .word .ensures)) ∙ c .before .before .if2 .taken)
+
+slice-aggregate-is-2 : tie.Need-slice-aggregate-is-2
+slice-aggregate-is-2 c = search needs
+
+is-requires-2 : tie.Need-is-requires-2
+is-requires-2 c κs = search needs
+
+behind-requires-2 : tie.Need-behind-requires-2
+behind-requires-2 c κs = search needs
+
+arrive-requires : tie.Need-arrive-requires
+arrive-requires c κs = search needs
+
+returns-3 : tie.Need-returns-3
+returns-3 c =
+    c .arrive .ensures ∙ ap arriveIn (c .before .behind2 .ensures)
+    ∙ words-arrive (c .before .before .before .before .before .before .before .before .before .before .before .args .text .now) (λ z. c .before .before .before .before .before .before .before .before .if1 .left (ap length (c .before .before .before .before .before .before .before .before .before .word .ensures) ∙ z)) (sym (c .before .before .before .before .before .before .is .ensures ∙ ap (λ n. same n startName) (c .before .before .before .before .before .before .before .before .before .word .ensures)) ∙ c .before .before .before .before .before .if2 .left)
+    (sym (c .before .before .before .is2 .ensures ∙ ap (λ n. same n arriveName) (c .before .before .before .before .before .before .before .before .before .word .ensures)) ∙ c .before .before .if3 .taken)
+
+slice-aggregate-is-3 : tie.Need-slice-aggregate-is-3
+slice-aggregate-is-3 c = search needs
+
+is-requires-3 : tie.Need-is-requires-3
+is-requires-3 c κs = search needs
+
+behind-requires-3 : tie.Need-behind-requires-3
+behind-requires-3 c κs = search needs
+
+depart-requires : tie.Need-depart-requires
+depart-requires c κs = search needs
+
+returns-4 : tie.Need-returns-4
+returns-4 c =
+    c .depart .ensures ∙ ap (stampIn Depart) (c .before .behind3 .ensures)
+    ∙ words-depart (c .before .before .before .before .before .before .before .before .before .before .before .before .before .before .args .text .now) (λ z. c .before .before .before .before .before .before .before .before .before .before .before .if1 .left (ap length (c .before .before .before .before .before .before .before .before .before .before .before .before .word .ensures) ∙ z)) (sym (c .before .before .before .before .before .before .before .before .before .is .ensures ∙ ap (λ n. same n startName) (c .before .before .before .before .before .before .before .before .before .before .before .before .word .ensures)) ∙ c .before .before .before .before .before .before .before .before .if2 .left)
+    (sym (c .before .before .before .before .before .before .is2 .ensures ∙ ap (λ n. same n arriveName) (c .before .before .before .before .before .before .before .before .before .before .before .before .word .ensures)) ∙ c .before .before .before .before .before .if3 .left) (sym (c .before .before .before .is3 .ensures ∙ ap (λ n. same n departName) (c .before .before .before .before .before .before .before .before .before .before .before .before .word .ensures)) ∙ c .before .before .if4 .taken)
+
+returns-5 : tie.Need-returns-5
+returns-5 c =
+    words-other (c .before .before .before .before .before .before .before .before .before .before .before .before .args .text .now) (λ z. c .before .before .before .before .before .before .before .before .before .if1 .left (ap length (c .before .before .before .before .before .before .before .before .before .before .word .ensures) ∙ z)) (sym (c .before .before .before .before .before .before .before .is .ensures ∙ ap (λ n. same n startName) (c .before .before .before .before .before .before .before .before .before .before .word .ensures)) ∙ c .before .before .before .before .before .before .if2 .left)
+    (sym (c .before .before .before .before .is2 .ensures ∙ ap (λ n. same n arriveName) (c .before .before .before .before .before .before .before .before .before .before .word .ensures)) ∙ c .before .before .before .if3 .left) (sym (c .before .is3 .ensures ∙ ap (λ n. same n departName) (c .before .before .before .before .before .before .before .before .before .before .word .ensures)) ∙ c .if4 .left)
+
+pub words-spec : {M : Type 1} → statement M
+words-spec =
+    tie.close
+    (tie.spec
+    word-requires
+    returns
+    slice-aggregate-is
+    is-requires
+    behind-requires
+    start-requires
+    returns-2
+    slice-aggregate-is-2
+    is-requires-2
+    behind-requires-2
+    arrive-requires
+    returns-3
+    slice-aggregate-is-3
+    is-requires-3
+    behind-requires-3
+    depart-requires
+    returns-4
+    returns-5)

@@ -1,0 +1,31 @@
+-- The number that a word is, as docs/FORMS.md sets it down.
+-- Assumes nothing.
+use Prim.Native.Nat.{ℕ, _+_, _-_, _*_, _^_}
+use mathlib.Core.Bool.{Bool, true, false, _&&_}
+use mathlib.Core.List.{List, [], _∷_}
+use lib.Dec.{ltb, leb}
+use Rattle.calls.specs.declared.Operand.{Operand}
+use Rattle.calls.specs.declared.Operand.the-variants.{Of, NotANumber}
+
+-- a number where the test holds, and no number where it doesn't
+abbrev pub onlyIf : Bool → Operand → Operand
+onlyIf true n = n
+onlyIf false n = NotANumber
+
+-- "at most 4294967295"
+abbrev pub narrow : ℕ → Operand
+narrow n = onlyIf (ltb n (2 ^ 32)) (Of n)
+
+-- "decimal digits"
+abbrev pub isDigit : ℕ → Bool
+isDigit b = leb 48 b && leb b 57
+
+-- the number that the digits s make after digits that made n
+unfoldable pub numberFrom : ℕ → List ℕ → Operand
+numberFrom n [] = narrow n
+numberFrom n (b ∷ s) = onlyIf (isDigit b) (numberFrom (10 * n + (b - 48)) s)
+
+-- a word of no bytes is no number
+unfoldable pub numberOf : List ℕ → Operand
+numberOf [] = NotANumber
+numberOf (b ∷ s) = numberFrom 0 (b ∷ s)
