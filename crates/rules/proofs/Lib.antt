@@ -14,3 +14,4 @@ pub mod Sent
 pub mod Leaves
 pub mod Fair
 pub mod One
+pub mod Link

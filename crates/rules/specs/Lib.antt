@@ -11,3 +11,6 @@ pub mod Choice
 pub mod Lawful
 pub mod Answers
 pub mod Rows
+pub mod Link
+pub mod Guarantee
+pub mod Runs

@@ -1,5 +1,5 @@
 // What a call of the scheduler answers, and the two small functions that stand on no state. The rules
-// themselves are the definitions of specs/.
+// themselves, and the guarantee, are the definitions and theorems of specs/ and proofs/.
 ghost use mathlib.Core.Path.{_≡_};
 ghost use Rattle.rules.specs.Limits as limits;
 ghost use Rattle.rules.specs.Clock.{elapsedTicks};

@@ -5,7 +5,7 @@ use mathlib.Core.List.{List}
 use Rattle.rules.specs.Calls.{History}
 use Rattle.rules.specs.Lawful.{Lawful}
 use Rattle.rules.proofs.Answers.{arrives-lawful, departs-lawful, starts-lawful}
-use Rattle.link.proofs.Guarantee.{guarantee}
+use Rattle.rules.proofs.Link.Guarantee.{guarantee}
 use Rattle.sched.specs.State.{Shows, Reached}
 use Rattle.sched.specs.Runs.{Run, started, arrived, departed, RunsGuaranteed}
 

@@ -7,8 +7,8 @@ use Rattle.tree.specs.declared.Verdict.{Verdict}
 use Rattle.rules.specs.declared.Arrival.{Arrival}
 use Rattle.rules.specs.declared.Departure.{Departure}
 use Rattle.rules.specs.Calls.{History}
-use Rattle.link.specs.Link.{Link}
-use Rattle.link.specs.Guarantee.{Guaranteed}
+use Rattle.rules.specs.Link.{Link}
+use Rattle.rules.specs.Guarantee.{Guaranteed}
 use Rattle.sched.specs.Promises.{StartRight, ArriveRight, DepartRight}
 
 -- The arrays that a run of calls has come to, and its history: a start with a stamp of 32 bits, an arrival or a departure after a run, whatever it answered.

@@ -8,15 +8,15 @@ use Rattle.curve.specs.Curves.{Rising}
 use Rattle.curve.specs.Fit.{CurvesFit}
 use Rattle.tree.specs.declared.Tree.{Tree}
 use Rattle.tree.specs.Trees.{curveOf, curvesOf}
 use Rattle.rules.specs.declared.Rule.{Rule}
 use Rattle.rules.specs.Limits.{weigh}
 use Rattle.rules.specs.Calls.{Call, left, History}
 use Rattle.rules.specs.Clock.{clock}
 use Rattle.rules.specs.Queues.{waits, headLength, headNumber}
 use Rattle.rules.specs.Leaves.{DeadlineOf}
 use Rattle.rules.specs.Choice.{hasCurve}
 use Rattle.rules.specs.Lawful.{Lawful, LawfulCalls}
-use Rattle.link.specs.Link.{heaviest, Link}
+use Rattle.rules.specs.Link.{heaviest, Link}
 
 -- "any moment": the calls up to some call of the history
 pub data Moment (past : List Call) : List Call → Type 0 where

@@ -7,13 +7,13 @@ use lib.ListN.{replicate}
 use Rattle.curve.specs.declared.Curve.the-variants.{None, Straight}
 use Rattle.tree.specs.declared.Tree.{Tree}
 use Rattle.tree.specs.Trees.{noClass}
 use Rattle.rules.specs.declared.Rule.the-variants.{RealTime, Fair}
 use Rattle.rules.specs.Calls.{Call, came, left, idle, History}
 use Rattle.rules.specs.Clock.{clock}
 use Rattle.rules.specs.Lawful.{Lawful}
 use Rattle.rules.specs.Rows.{treeA}
-use Rattle.link.specs.Link.{heaviest, Link}
-use Rattle.link.specs.Guarantee.{Moment, Head, LeftBy, NoneLater}
+use Rattle.rules.specs.Link.{heaviest, Link}
+use Rattle.rules.specs.Guarantee.{Moment, Head, LeftBy, NoneLater}
 
 -- all that the guarantee asks for, of one packet: a lawful history that the link kept, a moment at which the packet is a head, and a clock that reaches
 -- its deadline + 9,000

@@ -20,23 +20,23 @@ use Rattle.curve.proofs.Laws.Leaf.{every-mono, deadline-by, by-deadline}
 use Rattle.tree.specs.declared.Tree.{Tree}
 use Rattle.tree.specs.Trees.{curveOf, curveBelow}
 use Rattle.tree.proofs.Curves.{curve-below}
 use Rattle.rules.specs.declared.Rule.{Rule}
 use Rattle.rules.specs.declared.Rule.the-variants.{RealTime, Fair}
 use Rattle.rules.specs.Limits.{weigh}
 use Rattle.rules.specs.Calls.{Call, came, left, idle}
 use Rattle.rules.specs.Clock.{clock}
 use Rattle.rules.specs.Queues.{queue, headOf, tailOf, isNonempty, waits, headLength}
 use Rattle.rules.specs.Leaves.{sentRealTime, pieces}
 use Rattle.rules.specs.Choice.{hasCurve, Contends, RealTimeRule, FairRule, NothingWaits}
 use Rattle.rules.specs.Lawful.{Timely, LawfulCalls}
 use Rattle.rules.proofs.Tests.{never, is-false}
 use Rattle.rules.proofs.Trees.{leaf-class}
 use Rattle.rules.proofs.Queues.{waits-leaf}
 use Rattle.rules.proofs.Least.{eligible-exists, deadline-exists}
-use Rattle.link.specs.Link.{heaviest, free, PassesNone}
-use Rattle.link.specs.Guarantee.{Sound}
-use Rattle.link.proofs.Sums.{sumFrom, sum-room, fit-sum}
-use Rattle.link.proofs.Leaves.{head-some, head-most, latest-by, started-by, unripe-due}
+use Rattle.rules.specs.Link.{heaviest, free, PassesNone}
+use Rattle.rules.specs.Guarantee.{Sound}
+use Rattle.rules.proofs.Link.Sums.{sumFrom, sum-room, fit-sum}
+use Rattle.rules.proofs.Link.Leaves.{head-some, head-most, latest-by, started-by, unripe-due}
 
 -- what is due by D is paid for, where the count began at tick s with `a` bytes sent: it is at most those and what the curve gives from s to D
 abbrev Paid : Curve → List Piece → (D s a : ℕ) → Type 0

@@ -18,23 +18,23 @@ use Rattle.curve.proofs.Laws.Order.{le-or-lt}
 use Rattle.curve.proofs.Laws.Leaf.{every-mono}
 use Rattle.tree.specs.declared.Tree.{Tree}
 use Rattle.tree.specs.Trees.{curveOf, isChild, isLeaf}
 use Rattle.rules.specs.declared.Rule.the-variants.{RealTime, Fair}
 use Rattle.rules.specs.Limits.{longest, room, end, tooFar, weigh}
 use Rattle.rules.specs.Calls.{Call, came, left, idle}
 use Rattle.rules.specs.Clock.{clock}
 use Rattle.rules.specs.Queues.{queue, headOf, tailOf, waits, headLength, accepted}
 use Rattle.rules.specs.Leaves.{sentRealTime, pieces, DeadlineOf}
 use Rattle.rules.specs.Over.{anyOf}
 use Rattle.rules.specs.Classes.{active}
 use Rattle.rules.specs.Fair.{virtualTimeOf}
 use Rattle.rules.specs.Choice.{hasCurve, Contends, RealTimeRule, ActiveChild, FairRule, reached, down, NothingWaits}
 use Rattle.rules.specs.Lawful.{Timely, Admitted, LawfulCalls, Grown}
 use Rattle.rules.proofs.Tests.{never, and-left, and-right, and-both, or-either, or-left, or-right, is-false, is-not}
 use Rattle.rules.proofs.Over.{any-none}
 use Rattle.rules.proofs.Trees.{leaf-class, child-class, curve-rising}
 use Rattle.rules.proofs.Queues.{waits-leaf}
 use Rattle.rules.proofs.Least.{eligible-exists}
-use Rattle.link.specs.Link.{free, AskedFree, EveryCallKeeps}
+use Rattle.rules.specs.Link.{free, AskedFree, EveryCallKeeps}
 
 -- both parts of a test
 both : (a b : Bool) → (a && b) ≡ true → (a ≡ true) × (b ≡ true)

@@ -16,25 +16,25 @@ use Rattle.curve.proofs.Laws.Order.{le-or-lt}
 use Rattle.tree.specs.declared.Tree.{Tree}
 use Rattle.tree.specs.Trees.{classAt, curveOf, isChild, childBelow, hasChild, isLeaf, stepsUp, depth, curveBelow, curvesFrom, curvesOf}
 use Rattle.tree.specs.Rules.{RightClass}
 use Rattle.rules.specs.declared.Rule.{Rule}
 use Rattle.rules.specs.Limits.{weigh}
 use Rattle.rules.specs.Calls.{Call, came, left, idle}
 use Rattle.rules.specs.Clock.{clock}
 use Rattle.rules.specs.Queues.{queue, waits, headLength, headNumber, accepted}
 use Rattle.rules.specs.Leaves.{sentRealTime, pieces}
 use Rattle.rules.specs.Over.{anyOf, largestOf, smallestOf}
 use Rattle.rules.specs.Classes.{isMet, sent, active}
 use Rattle.rules.specs.Fair.{roundedUp, virtualTime, isOther, meeting, fairPieces}
 use Rattle.rules.specs.Choice.{hasCurve}
 use Rattle.rules.specs.Lawful.{LawfulCalls, Grown, right}
 use Rattle.rules.specs.Rows.{treeA}
 use Rattle.rules.proofs.Tests.{never}
 use Rattle.rules.proofs.Examples.{right-A}
-use Rattle.link.specs.Link.{heaviest, free, Link}
-use Rattle.link.specs.Guarantee.{Moment, now, after, Head, LeftBy}
-use Rattle.link.specs.Runs.{Premises, runA, historyA, lateTree, lateRun, lateHistory, Attained, Shown, Sharp}
-use Rattle.link.proofs.Told.{every, headDue, deadline-told, lawful, lawful-told, keeps, keeps-told}
-use Rattle.link.proofs.Guarantee.{guarantee}
+use Rattle.rules.specs.Link.{heaviest, free, Link}
+use Rattle.rules.specs.Guarantee.{Moment, now, after, Head, LeftBy}
+use Rattle.rules.specs.Runs.{Premises, runA, historyA, lateTree, lateRun, lateHistory, Attained, Shown, Sharp}
+use Rattle.rules.proofs.Link.Told.{every, headDue, deadline-told, lawful, lawful-told, keeps, keeps-told}
+use Rattle.rules.proofs.Link.Guarantee.{guarantee}
 
 grown-A : Grown treeA
 grown-A = right right-A

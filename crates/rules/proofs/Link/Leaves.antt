@@ -14,17 +14,17 @@ use Rattle.curve.specs.declared.Piece.{Piece}
 use Rattle.curve.proofs.Laws.Kept.{Every, every-map, piece-every, orderly-first}
 use Rattle.curve.proofs.Laws.Leaf.{every-in, unripe-below, rise-split}
 use Rattle.tree.specs.declared.Tree.{Tree}
 use Rattle.rules.specs.Limits.{longest, weigh}
 use Rattle.rules.specs.Calls.{Call}
 use Rattle.rules.specs.Clock.{clock}
 use Rattle.rules.specs.Queues.{queue, headOf, isNonempty, waits, headLength}
 use Rattle.rules.specs.Leaves.{pieces}
 use Rattle.rules.specs.Lawful.{LawfulCalls}
 use Rattle.rules.proofs.Tests.{never, decided}
 use Rattle.rules.proofs.Queues.{head-length}
 use Rattle.rules.proofs.Sent.{weigh-some, weigh-most}
 use Rattle.rules.proofs.Leaves.{pieces-in-order}
-use Rattle.link.specs.Link.{heaviest}
+use Rattle.rules.specs.Link.{heaviest}
 
 no-head : (q : List ℕ) → isNonempty q ≡ false → headOf q ≤ longest
 no-head [] e = omega arith

@@ -14,22 +14,22 @@ use Rattle.curve.proofs.Laws.Order.{le-or-lt}
 use Rattle.tree.specs.declared.Tree.{Tree}
 use Rattle.tree.specs.Trees.{curveOf}
 use Rattle.tree.specs.Rules.{RightTree}
 use Rattle.rules.specs.declared.Rule.{Rule}
 use Rattle.rules.specs.declared.Rule.the-variants.{RealTime, Fair}
 use Rattle.rules.specs.Limits.{weigh}
 use Rattle.rules.specs.Calls.{Call, came, left, idle}
 use Rattle.rules.specs.Clock.{clock}
 use Rattle.rules.specs.Queues.{queue, headOf, isNonempty, waits, headLength, headNumber}
 use Rattle.rules.specs.Leaves.{sentRealTime, pieces}
 use Rattle.rules.specs.Lawful.{Allowed, LawfulCalls, Grown, right, none}
 use Rattle.rules.proofs.Tests.{never}
 use Rattle.rules.proofs.Trees.{leaf-class, curve-rising}
 use Rattle.rules.proofs.Queues.{waits-leaf, waits-came-on}
 use Rattle.rules.proofs.Least.{deadline-exists}
-use Rattle.link.specs.Link.{heaviest, free, Keeps, EveryCallKeeps, Link}
-use Rattle.link.specs.Guarantee.{Moment, now, after, Head, LeftBy, TimeLeft, Sound, Guaranteed, FromFit, Guarantee, HeadsThere}
-use Rattle.link.proofs.Leaves.{head-some}
-use Rattle.link.proofs.Invariant.{Invariant, ceiling, at-start, at-idle, at-came, at-fair, at-late, at-early, head-fits}
+use Rattle.rules.specs.Link.{heaviest, free, Keeps, EveryCallKeeps, Link}
+use Rattle.rules.specs.Guarantee.{Moment, now, after, Head, LeftBy, TimeLeft, Sound, Guaranteed, FromFit, Guarantee, HeadsThere}
+use Rattle.rules.proofs.Link.Leaves.{head-some}
+use Rattle.rules.proofs.Link.Invariant.{Invariant, ceiling, at-start, at-idle, at-came, at-fair, at-late, at-early, head-fits}
 
 module _ (tree : Tree) (sound : Sound tree) (r : ℕ) where
   -- one call
