@@ -1,6 +1,6 @@
 -- The number that a word's digits make, as a walk over the word makes it.
 -- Assumes nothing.
-use Prim.Native.Nat.{ℕ, zero, suc, _+_, _-_, _*_, _^_, _≤_, _<_}
+use Prim.Native.Nat.{ℕ, zero, suc, _+_, _-_, _*_, _^_, _≤_, _<_, min}
 use native.Mathlib.Numerals.{add-one}
 use native.Mathlib.Omega.{arith}
 use mathlib.Core.Path.{_≡_, refl, ap, _∙_}
@@ -9,21 +9,24 @@ use mathlib.Core.List.{List, [], _∷_}
 use lib.Dec.{leb, ltb}
 use lib.ListN.{length, getD, drop, drop-of-length-le}
 use lib.Seq.{drop-cons}
-use borrow.Author.Tests.{le-leb, lt-leb, le-ltb, lt-ltb}
+use borrow.Author.Tests.{le-leb, lt-leb, le-ltb, leb-true, leb-false}
 use Rattle.calls.specs.declared.Operand.{Operand}
-use Rattle.calls.specs.declared.Operand.the-variants.{Of, NotANumber}
-use Rattle.calls.specs.Numbers.{onlyIf, isDigit, numberFrom, numberOf}
+use Rattle.calls.specs.declared.Operand.the-variants.{NotANumber}
+use Rattle.calls.specs.Numbers.{onlyIf, narrowed, isDigit, numberFrom, numberOf}
 
-only-none : (t : Bool) → onlyIf t NotANumber ≡ NotANumber
-only-none true = refl
-only-none false = refl
-
--- digits after a number that is too large leave it too large
-pub number-passed : (n : ℕ) (s : List ℕ) → 2 ^ 32 ≤ n → numberFrom n s ≡ NotANumber
+-- all numbers past 32 bits are the same, whatever digits follow
+passed-same : (n m : ℕ) (s : List ℕ) → 2 ^ 32 ≤ n → 2 ^ 32 ≤ m → numberFrom n s ≡ numberFrom m s
 unfolding numberFrom
-number-passed n [] h = rw (le-ltb n (2 ^ 32) h)
-number-passed n (b ∷ s) h =
-    ap (onlyIf (isDigit b)) (number-passed (10 * n + (b - 48)) s (omega arith)) ∙ only-none (isDigit b)
+passed-same n m [] h k = rw (le-ltb n (2 ^ 32) h, le-ltb m (2 ^ 32) k)
+passed-same n m (b ∷ s) h k = ap (onlyIf (isDigit b)) (passed-same (10 * n + (b - 48)) (10 * m + (b - 48)) s (omega arith) (omega arith))
+
+-- so 2^32 stands for each of them
+pub number-capped : (n : ℕ) (s : List ℕ) → numberFrom n s ≡ numberFrom (min n (2 ^ 32)) s
+number-capped n s = by (leb n (2 ^ 32)) refl
+  where
+    by : (t : Bool) → leb n (2 ^ 32) ≡ t → numberFrom n s ≡ numberFrom (min n (2 ^ 32)) s
+    by true e = ap (λ m. numberFrom m s) (omega (arith, leb-true n (2 ^ 32) e))
+    by false e = passed-same n (min n (2 ^ 32)) s (omega (arith, leb-false n (2 ^ 32) e)) (omega (arith, leb-false n (2 ^ 32) e))
 
 -- a walk at i: a digit, or none
 pub number-on : (n : ℕ) (s : List ℕ) (i : ℕ) → i < length s → 48 ≤ getD s i 0 → getD s i 0 ≤ 57
@@ -39,9 +42,9 @@ pub number-high : (n : ℕ) (s : List ℕ) (i : ℕ) → i < length s → 48 ≤
 unfolding numberFrom
 number-high n s i h low high = rw (drop-cons s i 0 h, le-leb 48 (getD s i 0) low, lt-leb (getD s i 0) 57 high)
 
-pub number-ends : (n : ℕ) (s : List ℕ) (i : ℕ) → length s ≤ i → n < 2 ^ 32 → numberFrom n (drop i s) ≡ Of n
+pub number-ends : (n : ℕ) (s : List ℕ) (i : ℕ) → length s ≤ i → numberFrom n (drop i s) ≡ narrowed n
 unfolding numberFrom
-number-ends n s i h small = rw (drop-of-length-le s h, lt-ltb n (2 ^ 32) small)
+number-ends n s i h = rw (drop-of-length-le s h)
 
 -- a word of some bytes is the number that its digits make after 0
 pub number-some : (s : List ℕ) → 0 < length s → numberOf s ≡ numberFrom 0 s

@@ -1,14 +1,15 @@
 -- What a line says, as docs/FORMS.md sets it down.
 -- Assumes nothing.
 use Prim.Native.Nat.{ℕ}
-use mathlib.Core.Bool.{Bool, true, false}
+use mathlib.Core.Bool.{Bool, true, false, _&&_}
 use mathlib.Core.List.{List, [], _∷_}
 use Rattle.calls.specs.declared.Line.{Line}
 use Rattle.calls.specs.declared.Line.the-variants.{Start, Arrive, Depart, Nothing, NotACall}
+use Rattle.calls.specs.declared.Line.the-variants as line
 use Rattle.calls.specs.declared.Operand.{Operand}
-use Rattle.calls.specs.declared.Operand.the-variants.{Of, NotANumber}
+use Rattle.calls.specs.declared.Operand.the-variants.{Of, TooLarge, NotANumber}
 use Rattle.calls.specs.Words.{uncommented, first, after, same}
-use Rattle.calls.specs.Numbers.{numberOf}
+use Rattle.calls.specs.Numbers.{numberOf, isNumber}
 
 -- 'start', 'arrive' and 'depart'
 abbrev pub startName : List ℕ
@@ -20,33 +21,34 @@ arriveName = 97 ∷ 114 ∷ 114 ∷ 105 ∷ 118 ∷ 101 ∷ []
 abbrev pub departName : List ℕ
 departName = 100 ∷ 101 ∷ 112 ∷ 97 ∷ 114 ∷ 116 ∷ []
 
--- a call stands alone: a further word makes the line no call
-abbrev pub alone : List ℕ → Line → Line
-alone [] call = call
-alone (b ∷ s) call = NotACall
+-- "and nothing more": a number with a further word after it is none
+abbrev pub alone : List ℕ → Operand → Operand
+alone [] n = n
+alone (b ∷ s) n = NotANumber
 
--- `start STAMP` and `depart STAMP`: the operand, and the word after it
-abbrev pub stampBy : (ℕ → Line) → Operand → List ℕ → Line
-stampBy call (Of stamp) more = alone more (call stamp)
-stampBy call NotANumber more = NotACall
+-- the number that a text is, as its only word
+unfoldable pub onlyIn : List ℕ → Operand
+onlyIn text = alone (first (after text)) (numberOf (first text))
 
--- `arrive STAMP CLASS LENGTH`: the operands, and the word after them
-abbrev pub arriveBy : Operand → Operand → Operand → List ℕ → Line
-arriveBy (Of stamp) (Of class) (Of length) more = alone more (Arrive stamp class length)
-arriveBy (Of stamp) (Of class) NotANumber more = NotACall
-arriveBy (Of stamp) NotANumber length more = NotACall
-arriveBy NotANumber class length more = NotACall
+-- a call with its number
+abbrev pub callOf : (ℕ → Line) → Operand → Line
+callOf call (Of n) = call n
+callOf call TooLarge = line.TooLarge
+callOf call NotANumber = NotACall
 
--- the same of the text after the call's name
-unfoldable pub stampIn : (ℕ → Line) → List ℕ → Line
-stampIn call text = stampBy call (numberOf (first text)) (first (after text))
+-- "The form is judged first"
+abbrev pub inForm : Bool → Line → Line
+inForm true call = call
+inForm false call = NotACall
+
+-- `arrive STAMP CLASS LENGTH`: the operands, and the same of the text after the name
+abbrev pub arriveOf : Operand → Operand → Operand → Line
+arriveOf stamp class length =
+    inForm (isNumber stamp && (isNumber class && isNumber length))
+    (callOf (λ s. callOf (λ c. callOf (λ l. Arrive s c l) length) class) stamp)
 
 unfoldable pub arriveIn : List ℕ → Line
-arriveIn text =
-    arriveBy (numberOf (first text))
-    (numberOf (first (after text)))
-    (numberOf (first (after (after text))))
-    (first (after (after (after text))))
+arriveIn text = arriveOf (numberOf (first text)) (numberOf (first (after text))) (onlyIn (after (after text)))
 
 -- a call where its name is that one
 abbrev pub ifNamed : Bool → Line → Line → Line
@@ -58,8 +60,8 @@ abbrev pub named : List ℕ → List ℕ → Line
 named [] rest = Nothing
 named (b ∷ s) rest =
     ifNamed (same (b ∷ s) startName)
-    (stampIn Start rest)
-    (ifNamed (same (b ∷ s) arriveName) (arriveIn rest) (ifNamed (same (b ∷ s) departName) (stampIn Depart rest) NotACall))
+    (callOf Start (onlyIn rest))
+    (ifNamed (same (b ∷ s) arriveName) (arriveIn rest) (ifNamed (same (b ∷ s) departName) (callOf Depart (onlyIn rest)) NotACall))
 
 unfoldable pub wordsIn : List ℕ → Line
 wordsIn text = named (first text) (after text)

@@ -1,10 +1,10 @@
 // The lines of a calls file, as docs/FORMS.md sets them down: which line is which call.
 ghost use mathlib.Core.Path.{_≡_};
-ghost use Prim.Native.Nat.{_≤_};
+ghost use Prim.Native.Nat.{_≤_, _^_, min};
 ghost use lib.ListN.{length};
 ghost use Rattle.calls.specs.Words.{isBlank, isOf, span, uncommented, first, after, same};
-ghost use Rattle.calls.specs.Numbers.{numberOf};
-ghost use Rattle.calls.specs.Lines.{lineOf, wordsIn, stampIn, arriveIn};
+ghost use Rattle.calls.specs.Numbers.{numberOf, narrowed, isNumber};
+ghost use Rattle.calls.specs.Lines.{lineOf, wordsIn, onlyIn, callOf, arriveOf, arriveIn};
 
 // What a line says.
 pub enum Line {
@@ -12,6 +12,7 @@ pub enum Line {
     Arrive { stamp: u32, class: u32, length: u32 },
     Depart { stamp: u32 },
     Nothing,
+    TooLarge,
     NotACall,
 }
 
@@ -22,9 +23,10 @@ enum Kind {
     Text,
 }
 
-// A word as a number, of 32 bits at most.
+// A word as a number: one of 32 bits, one past them, or none.
 enum Operand {
     Of(u32),
+    TooLarge,
     NotANumber,
 }
 
@@ -43,66 +45,95 @@ fn words(text: &[u8]) -> Line
         return Line::Nothing;
     }
     if is(name, b"start") {
-        return start(behind(text));
+        return start(only(behind(text)));
     }
     if is(name, b"arrive") {
         return arrive(behind(text));
     }
     if is(name, b"depart") {
-        return depart(behind(text));
+        return depart(only(behind(text)));
     }
     Line::NotACall
 }
 
-// `start` with its operand.
-fn start(text: &[u8]) -> Line
-    ensures { λ r. ⌜ r ≡ stampIn Line.Start (now (text .entry)) ⌝ }
+fn start(stamp: Operand) -> Line
+    ensures { λ r. ⌜ r ≡ callOf Line.Start stamp ⌝ }
 {
-    let Operand::Of(stamp) = number(word(text)) else {
-        return Line::NotACall;
-    };
-    if word(behind(text)).len() != 0 {
-        return Line::NotACall;
+    match stamp {
+        Operand::Of(stamp) => Line::Start { stamp },
+        Operand::TooLarge => Line::TooLarge,
+        Operand::NotANumber => Line::NotACall,
     }
-    Line::Start { stamp }
 }
 
-// `depart` with its operand.
-fn depart(text: &[u8]) -> Line
-    ensures { λ r. ⌜ r ≡ stampIn Line.Depart (now (text .entry)) ⌝ }
+fn depart(stamp: Operand) -> Line
+    ensures { λ r. ⌜ r ≡ callOf Line.Depart stamp ⌝ }
 {
-    let Operand::Of(stamp) = number(word(text)) else {
-        return Line::NotACall;
-    };
-    if word(behind(text)).len() != 0 {
-        return Line::NotACall;
+    match stamp {
+        Operand::Of(stamp) => Line::Depart { stamp },
+        Operand::TooLarge => Line::TooLarge,
+        Operand::NotANumber => Line::NotACall,
     }
-    Line::Depart { stamp }
 }
 
-// `arrive` with its three operands.
+// `arrive` with its operands.
 fn arrive(text: &[u8]) -> Line
     ensures { λ r. ⌜ r ≡ arriveIn (now (text .entry)) ⌝ }
 {
     let second = behind(text);
-    let third = behind(second);
-    let Operand::Of(stamp) = number(word(text)) else {
-        return Line::NotACall;
-    };
-    let Operand::Of(class) = number(word(second)) else {
-        return Line::NotACall;
-    };
-    let Operand::Of(length) = number(word(third)) else {
-        return Line::NotACall;
-    };
-    if word(behind(third)).len() != 0 {
+    let stamp = number(word(text));
+    let class = number(word(second));
+    let length = only(behind(second));
+    arrival(stamp, class, length)
+}
+
+// The form is judged before the sizes.
+fn arrival(stamp: Operand, class: Operand, length: Operand) -> Line
+    ensures { λ r. ⌜ r ≡ arriveOf stamp class length ⌝ }
+{
+    if !is_number(stamp) {
         return Line::NotACall;
     }
+    if !is_number(class) {
+        return Line::NotACall;
+    }
+    if !is_number(length) {
+        return Line::NotACall;
+    }
+    let Operand::Of(stamp) = stamp else {
+        return Line::TooLarge;
+    };
+    let Operand::Of(class) = class else {
+        return Line::TooLarge;
+    };
+    let Operand::Of(length) = length else {
+        return Line::TooLarge;
+    };
     Line::Arrive {
         stamp,
         class,
         length,
     }
+}
+
+fn is_number(operand: Operand) -> bool
+    ensures { λ r. ⌜ r ≡ isNumber operand ⌝ }
+{
+    match operand {
+        Operand::Of(n) => true,
+        Operand::TooLarge => true,
+        Operand::NotANumber => false,
+    }
+}
+
+// The number that a text is, as its only word.
+fn only(text: &[u8]) -> Operand
+    ensures { λ r. ⌜ r ≡ onlyIn (now (text .entry)) ⌝ }
+{
+    if word(behind(text)).len() != 0 {
+        return Operand::NotANumber;
+    }
+    number(word(text))
 }
 
 // The number that a word is.
@@ -122,11 +153,27 @@ fn number(word: &[u8]) -> Operand
         if 57 < b {
             return Operand::NotANumber;
         }
-        value = 10 * value + wide(b - 48);
-        if 4294967295 < value {
-            return Operand::NotANumber;
-        }
+        value = capped(10 * value + wide(b - 48));
         i += 1;
+    }
+    narrow(value)
+}
+
+// 2^32 stands for every number past 32 bits, so that digits without end do not wrap.
+fn capped(value: u64) -> u64
+    ensures { λ r. ⌜ r ≡ min value (2 ^ 32) ⌝ }
+{
+    if 4294967296 < value {
+        return 4294967296;
+    }
+    value
+}
+
+fn narrow(value: u64) -> Operand
+    ensures { λ r. ⌜ r ≡ narrowed value ⌝ }
+{
+    if 4294967295 < value {
+        return Operand::TooLarge;
     }
     Operand::Of(value as u32)
 }

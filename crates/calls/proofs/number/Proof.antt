@@ -1,17 +1,17 @@
--- `calls::number` meets its contract: the number is what the digits left make after those passed, and once too large it stays so.
+-- `calls::number` meets its contract: the number is what the digits left make after those passed, and 2^32 stands for all that are too large.
 -- Assumes nothing.
 use Prim.Native.Nat.{_+_, _-_, _*_, _^_, _≤_, _<_}
 use native.Mathlib.Omega.{arith}
-use mathlib.Core.Path.{_≡_, sym, _∙_}
+use mathlib.Core.Path.{_≡_, sym, ap, _∙_}
 use lib.ListN.{length, getD, drop}
 use borrow.Author.Needs.{needs}
 use Rattle.calls.specs.Numbers.{numberFrom, numberOf}
-use Rattle.calls.proofs.Digits.{number-passed, number-on, number-low, number-high, number-ends, number-some, number-none, nonzero}
+use Rattle.calls.proofs.Digits.{number-capped, number-on, number-low, number-high, number-ends, number-some, number-none, nonzero}
 use Rattle.calls.proofs.number.Statement.{statement}
 use Rattle.calls.proofs.number.Tie as tie
 
 abbrev Inv-loop : tie.InvT-loop
-Inv-loop word value₀ i₀ value i = ((i ≤ length word) × (value < 2 ^ 32)) × (numberOf word ≡ numberFrom value (drop i word))
+Inv-loop word value₀ i₀ value i = ((i ≤ length word) × (value ≤ 2 ^ 32)) × (numberOf word ≡ numberFrom value (drop i word))
 
 abbrev μ-loop : tie.MeasureT-loop
 μ-loop word value₀ i₀ value i = length word - i
@@ -33,22 +33,17 @@ returns-3 : tie.Need-returns-3 Inv-loop μ-loop
 returns-3 c =
     sym (c .before .before .before .before .loop .inv .1 ∙ number-high _ (c .before .before .before .before .before .before .before .args .word .now) (c .before .before .before .before .loop .i) (omega arith) (c .before .if2 .left) (c .if3 .taken))
 
-mul-value : tie.Need-mul-value Inv-loop μ-loop
-mul-value c = omega arith
+mul-capped : tie.Need-mul-capped Inv-loop μ-loop
+mul-capped c = omega arith
 
 wide-requires : tie.Need-wide-requires Inv-loop μ-loop
 wide-requires c κs = tt
 
-add-value : tie.Need-add-value Inv-loop μ-loop
-add-value c = omega (arith, c .wide .ensures)
+add-capped : tie.Need-add-capped Inv-loop μ-loop
+add-capped c = omega (arith, c .wide .ensures)
 
-returns-4 : tie.Need-returns-4 Inv-loop μ-loop
-returns-4 c =
-    let s = c .before .before .before .before .before .before .before .before .before .args .word .now in
-    let l = c .before .before .before .before .before .before .loop in
-    let on = number-on (l .value) s (l .i) (omega arith) (c .before .before .before .if2 .left) (c .before .before .if3 .left) in
-    let big : 2 ^ 32 ≤ 10 * l .value + (getD s (l .i) 0 - 48) = omega (arith, c .before .wide .ensures) in
-    sym (l .inv .1 ∙ on ∙ number-passed _ (drop (l .i + 1) s) big)
+capped-requires : tie.Need-capped-requires Inv-loop μ-loop
+capped-requires c κs = tt
 
 add-i : tie.Need-add-i Inv-loop μ-loop
 add-i c = omega arith
@@ -61,13 +56,16 @@ loop-again c =
     let s = c .before .before .before .before .before .before .before .before .before .args .word .now in
     let l = c .before .before .before .before .before .before .loop in
     let on = number-on (l .value) s (l .i) (omega arith) (c .before .before .before .if2 .left) (c .before .before .if3 .left) in
-    ((omega arith, omega arith), l .inv .1 ∙ rw (c .before .wide .ensures) on)
+    let more = number-capped (10 * l .value + (getD s (l .i) 0 - 48)) (drop (l .i + 1) s) in
+    ((omega arith, omega (arith, c .capped .ensures)), l .inv .1 ∙ on ∙ more ∙ rw (c .capped .ensures, c .before .wide .ensures))
 
-cast-t13 : tie.Need-cast-t13 Inv-loop μ-loop
-cast-t13 c = omega arith
+narrow-requires : tie.Need-narrow-requires Inv-loop μ-loop
+narrow-requires c κs = tt
 
-returns-5 : tie.Need-returns-5 Inv-loop μ-loop
-returns-5 c = sym (c .before .loop .inv .1 ∙ number-ends _ (c .before .before .before .before .args .word .now) (c .before .loop .i) (omega arith) (omega arith))
+returns-4 : tie.Need-returns-4 Inv-loop μ-loop
+returns-4 c =
+    c .narrow .ensures
+    ∙ sym (c .before .before .loop .inv .1 ∙ number-ends _ (c .before .before .before .before .before .args .word .now) (c .before .before .loop .i) (omega arith))
 
 pub number-spec : {M : Type 1} → statement M
 number-spec =
@@ -80,12 +78,12 @@ number-spec =
     shared-slice-read-b
     returns-2
     returns-3
-    mul-value
+    mul-capped
     wide-requires
-    add-value
-    returns-4
+    add-capped
+    capped-requires
     add-i
     loop-less
     loop-again
-    cast-t13
-    returns-5)
+    narrow-requires
+    returns-4)

@@ -7,7 +7,7 @@ use lib.ListN.{length}
 use borrow.Author.Needs.{needs}
 use Rattle.calls.specs.declared.Line.the-variants.{Start, Depart}
 use Rattle.calls.specs.Words.{same}
-use Rattle.calls.specs.Lines.{startName, arriveName, departName, stampIn, arriveIn}
+use Rattle.calls.specs.Lines.{startName, arriveName, departName, onlyIn, callOf, arriveIn}
 use Rattle.calls.proofs.Named.{words-none, words-start, words-arrive, words-depart, words-other}
 use Rattle.calls.proofs.words.Statement.{statement}
 use Rattle.calls.proofs.words.Tie as tie
@@ -27,13 +27,16 @@ is-requires c κs = search needs
 behind-requires : tie.Need-behind-requires
 behind-requires c κs = search needs
 
+only-requires : tie.Need-only-requires
+only-requires c κs = search needs
+
 start-requires : tie.Need-start-requires
 start-requires c κs = search needs
 
 returns-2 : tie.Need-returns-2
 returns-2 c =
-    c .start .ensures ∙ ap (stampIn Start) (c .before .behind .ensures)
-    ∙ words-start (c .before .before .before .before .before .before .before .before .args .text .now) (λ z. c .before .before .before .before .before .if1 .left (ap length (c .before .before .before .before .before .before .word .ensures) ∙ z)) (sym (c .before .before .before .is .ensures ∙ ap (λ n. same n startName) (c .before .before .before .before .before .before .word .ensures)) ∙ c .before .before .if2 .taken)
+    c .start .ensures ∙ ap (callOf Start) (c .before .only .ensures ∙ ap onlyIn (c .before .before .behind .ensures))
+    ∙ words-start (c .before .before .before .before .before .before .before .before .before .args .text .now) (λ z. c .before .before .before .before .before .before .if1 .left (ap length (c .before .before .before .before .before .before .before .word .ensures) ∙ z)) (sym (c .before .before .before .before .is .ensures ∙ ap (λ n. same n startName) (c .before .before .before .before .before .before .before .word .ensures)) ∙ c .before .before .before .if2 .taken)
 
 slice-aggregate-is-2 : tie.Need-slice-aggregate-is-2
 slice-aggregate-is-2 c = search needs
@@ -62,14 +65,17 @@ is-requires-3 c κs = search needs
 behind-requires-3 : tie.Need-behind-requires-3
 behind-requires-3 c κs = search needs
 
+only-requires-2 : tie.Need-only-requires-2
+only-requires-2 c κs = search needs
+
 depart-requires : tie.Need-depart-requires
 depart-requires c κs = search needs
 
 returns-4 : tie.Need-returns-4
 returns-4 c =
-    c .depart .ensures ∙ ap (stampIn Depart) (c .before .behind3 .ensures)
-    ∙ words-depart (c .before .before .before .before .before .before .before .before .before .before .before .before .before .before .args .text .now) (λ z. c .before .before .before .before .before .before .before .before .before .before .before .if1 .left (ap length (c .before .before .before .before .before .before .before .before .before .before .before .before .word .ensures) ∙ z)) (sym (c .before .before .before .before .before .before .before .before .before .is .ensures ∙ ap (λ n. same n startName) (c .before .before .before .before .before .before .before .before .before .before .before .before .word .ensures)) ∙ c .before .before .before .before .before .before .before .before .if2 .left)
-    (sym (c .before .before .before .before .before .before .is2 .ensures ∙ ap (λ n. same n arriveName) (c .before .before .before .before .before .before .before .before .before .before .before .before .word .ensures)) ∙ c .before .before .before .before .before .if3 .left) (sym (c .before .before .before .is3 .ensures ∙ ap (λ n. same n departName) (c .before .before .before .before .before .before .before .before .before .before .before .before .word .ensures)) ∙ c .before .before .if4 .taken)
+    c .depart .ensures ∙ ap (callOf Depart) (c .before .only2 .ensures ∙ ap onlyIn (c .before .before .behind3 .ensures))
+    ∙ words-depart (c .before .before .before .before .before .before .before .before .before .before .before .before .before .before .before .args .text .now) (λ z. c .before .before .before .before .before .before .before .before .before .before .before .before .if1 .left (ap length (c .before .before .before .before .before .before .before .before .before .before .before .before .before .word .ensures) ∙ z)) (sym (c .before .before .before .before .before .before .before .before .before .before .is .ensures ∙ ap (λ n. same n startName) (c .before .before .before .before .before .before .before .before .before .before .before .before .before .word .ensures)) ∙ c .before .before .before .before .before .before .before .before .before .if2 .left)
+    (sym (c .before .before .before .before .before .before .before .is2 .ensures ∙ ap (λ n. same n arriveName) (c .before .before .before .before .before .before .before .before .before .before .before .before .before .word .ensures)) ∙ c .before .before .before .before .before .before .if3 .left) (sym (c .before .before .before .before .is3 .ensures ∙ ap (λ n. same n departName) (c .before .before .before .before .before .before .before .before .before .before .before .before .before .word .ensures)) ∙ c .before .before .before .if4 .taken)
 
 returns-5 : tie.Need-returns-5
 returns-5 c =
@@ -85,6 +91,7 @@ words-spec =
     slice-aggregate-is
     is-requires
     behind-requires
+    only-requires
     start-requires
     returns-2
     slice-aggregate-is-2
@@ -95,6 +102,7 @@ words-spec =
     slice-aggregate-is-3
     is-requires-3
     behind-requires-3
+    only-requires-2
     depart-requires
     returns-4
     returns-5)
