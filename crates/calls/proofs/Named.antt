@@ -1,17 +1,16 @@
 -- What a text says, by its words: for each way through the code.
 -- Assumes nothing.
-use Prim.Native.Nat.{ℕ, _-_, _≤_}
+use Prim.Native.Nat.{ℕ, _-_}
 use native.Mathlib.Omega.{arith}
-use mathlib.Core.Path.{_≡_, refl, sym, ap, _∙_}
-use mathlib.Core.Bool.{Bool, true, false}
+use mathlib.Core.Path.{_≡_, refl, sym}
+use mathlib.Core.Bool.{true, false}
 use mathlib.Core.List.{List, [], _∷_}
-use mathlib.Core.Logic.{_⊎_, inl, inr}
+use mathlib.Core.Logic.{inl, inr}
 use lib.ListN.{length, take, drop, length-drop}
 use lib.Seq.{take-all}
 use types.Run.{OneOf}
 use denote.Enum.Declared.{tagOf}
 use Rattle.calls.proofs.Operand.{the-type}
-use Rattle.calls.specs.declared.Line.{Line}
 use Rattle.calls.specs.declared.Line.the-variants.{Start, Depart, Nothing, NotACall}
 use Rattle.calls.specs.declared.Operand.{Operand}
 use Rattle.calls.specs.declared.Operand.the-variants.{Of, TooLarge, NotANumber}

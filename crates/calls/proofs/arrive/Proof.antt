@@ -1,6 +1,6 @@
 -- `calls::arrive` meets its contract: the operands are the definition's.
 -- Assumes nothing.
-use mathlib.Core.Path.{_≡_, ap, _∙_}
+use mathlib.Core.Path.{ap, _∙_}
 use borrow.Author.Needs.{needs}
 use Rattle.calls.specs.Words.{first, after}
 use Rattle.calls.specs.Numbers.{numberOf}

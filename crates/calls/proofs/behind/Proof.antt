@@ -1,7 +1,7 @@
 -- `calls::behind` meets its contract: white space is passed, then the word.
 -- Assumes nothing.
 use Prim.Native.Nat.{_-_}
-use mathlib.Core.Path.{_≡_, sym, ap, _∙_}
+use mathlib.Core.Path.{_≡_, ap, _∙_}
 use lib.ListN.{length, take, drop}
 use borrow.Author.Needs.{needs}
 use Rattle.calls.specs.Words.{after, begun}

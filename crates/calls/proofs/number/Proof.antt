@@ -1,10 +1,9 @@
 -- `calls::number` meets its contract: the number is what the digits left make after those passed, and 2^32 stands for all that are too large.
 -- Assumes nothing.
-use Prim.Native.Nat.{_+_, _-_, _*_, _^_, _≤_, _<_}
+use Prim.Native.Nat.{_+_, _-_, _*_, _^_, _≤_}
 use native.Mathlib.Omega.{arith}
-use mathlib.Core.Path.{_≡_, sym, ap, _∙_}
+use mathlib.Core.Path.{_≡_, sym, _∙_}
 use lib.ListN.{length, getD, drop}
-use borrow.Author.Needs.{needs}
 use Rattle.calls.specs.Numbers.{numberFrom, numberOf}
 use Rattle.calls.proofs.Digits.{number-capped, number-on, number-low, number-high, number-ends, number-some, number-none, nonzero}
 use Rattle.calls.proofs.number.Statement.{statement}

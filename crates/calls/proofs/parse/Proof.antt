@@ -1,6 +1,6 @@
 -- `calls::parse` meets its contract: the comment is cut, and the words are read.
 -- Assumes nothing.
-use mathlib.Core.Path.{_≡_, sym, ap, _∙_}
+use mathlib.Core.Path.{ap, _∙_}
 use borrow.Author.Needs.{needs}
 use Rattle.calls.specs.Lines.{lineOf, wordsIn}
 use Rattle.calls.proofs.parse.Statement.{statement}

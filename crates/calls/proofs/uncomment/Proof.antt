@@ -1,7 +1,7 @@
 -- `calls::uncomment` meets its contract: the bytes before the first `#` are taken.
 -- Assumes nothing.
 use native.Mathlib.Omega.{arith}
-use mathlib.Core.Path.{_≡_, sym, ap, _∙_}
+use mathlib.Core.Path.{sym}
 use lib.Seq.{length-take-le}
 use borrow.Author.Needs.{needs}
 use Rattle.calls.specs.Words.{uncommented}
