@@ -9,6 +9,8 @@ pub const CLOCK_TOP: u128 = 1 << 40;
 pub const BYTES_TOP: u128 = 1 << 40;
 pub const LENGTH_TOP: u128 = 9_000;
 pub const WAITING_TOP: usize = 64;
+/// The longest line that a replay takes, in bytes without its end. A longer one is not a call, whatever it says.
+pub const LINE_TOP: usize = 65_535;
 
 /// A packet that leaves, with the head's times as they stood before it left.
 #[derive(Clone, Copy, Debug, PartialEq, Eq)]
@@ -124,36 +126,44 @@ pub enum Call {
 #[derive(Clone, Copy, Debug, PartialEq, Eq)]
 pub enum Fault {
     NotACall,
-    PastBits,
+    /// A call in form, with a number past 32 bits.
+    TooLarge,
 }
 
-/// A decimal number of at least one digit.
-fn number(text: &str) -> Result<u32, Fault> {
-    if text.is_empty() || !text.bytes().all(|byte| byte.is_ascii_digit()) {
+/// The words of a line, before its comment. White space is a space, a tab or a carriage return.
+fn words(line: &[u8]) -> Vec<&[u8]> {
+    let text = line.split(|&byte| byte == b'#').next().unwrap_or(line);
+    text.split(|byte| b" \t\r".contains(byte)).filter(|word| !word.is_empty()).collect()
+}
+
+/// A word of decimal digits as a number of 32 bits.
+fn number(digits: &[u8]) -> Result<u32, Fault> {
+    let more = |value: u32, digit: &u8| value.checked_mul(10)?.checked_add(u32::from(digit - b'0'));
+    digits.iter().try_fold(0, more).ok_or(Fault::TooLarge)
+}
+
+/// A line without its end: nothing for a blank line or a comment. The form is judged first, then the size of the numbers.
+pub fn parse_line(line: &[u8]) -> Result<Option<Call>, Fault> {
+    if line.len() > LINE_TOP {
         return Err(Fault::NotACall);
     }
-    text.parse().map_err(|_| Fault::PastBits)
-}
-
-/// A line without its end: nothing for a blank line or a comment.
-pub fn parse_line(line: &str) -> Result<Option<Call>, Fault> {
-    let text = line.split('#').next().unwrap_or("");
-    let parts: Vec<&str> = text.split([' ', '\t', '\r']).filter(|part| !part.is_empty()).collect();
-    let call = match parts[..] {
-        [] => return Ok(None),
-        ["start", stamp] => Call::Start { stamp: number(stamp)? },
-        ["arrive", stamp, class, length] => {
-            // A part that is no number at all comes before a number that is too large.
-            let all = [number(stamp), number(class), number(length)];
-            if all.contains(&Err(Fault::NotACall)) {
-                return Err(Fault::NotACall);
-            }
-            Call::Arrive { stamp: all[0]?, class: all[1]?, length: all[2]? }
-        }
-        ["depart", stamp] => Call::Depart { stamp: number(stamp)? },
-        _ => return Err(Fault::NotACall),
+    let words = words(line);
+    let Some((&name, operands)) = words.split_first() else { return Ok(None) };
+    let in_form = match name {
+        b"start" | b"depart" => operands.len() == 1,
+        b"arrive" => operands.len() == 3,
+        _ => false,
     };
-    Ok(Some(call))
+    if !in_form || !operands.concat().iter().all(u8::is_ascii_digit) {
+        return Err(Fault::NotACall);
+    }
+    let numbers = operands.iter().map(|digits| number(digits)).collect::<Result<Vec<u32>, Fault>>()?;
+    Ok(Some(match (name, &numbers[..]) {
+        (b"start", &[stamp]) => Call::Start { stamp },
+        (b"arrive", &[stamp, class, length]) => Call::Arrive { stamp, class, length },
+        (b"depart", &[stamp]) => Call::Depart { stamp },
+        _ => unreachable!("the form was judged"),
+    }))
 }
 
 pub fn print_call(call: Call) -> String {
@@ -195,7 +205,7 @@ fn print_packet(packet: Packet) -> String {
 fn print_fault(line: usize, fault: Fault) -> String {
     match fault {
         Fault::NotACall => format!("line {line}: not a call"),
-        Fault::PastBits => format!("line {line}: number past 32 bits"),
+        Fault::TooLarge => format!("line {line}: number past 32 bits"),
     }
 }
 
@@ -213,14 +223,14 @@ fn answer(tree: &Tree, state: &mut Option<State>, call: Call) -> Result<String, 
 }
 
 /// Everything that a replay of these calls on this tree file prints.
-pub fn replay(tree_file: &[u8], calls: &str) -> String {
+pub fn replay(tree_file: &[u8], calls: &[u8]) -> String {
     let tree = match file::read(tree_file) {
         Ok(tree) => tree,
         Err(refusal) => return print_tree_refusal(refusal) + "\n",
     };
     let mut printed = String::new();
     let mut state = None;
-    for (before, line) in calls.lines().enumerate() {
+    for (before, line) in calls.split(|&byte| byte == b'\n').enumerate() {
         let answered = match parse_line(line) {
             Ok(None) => continue,
             Ok(Some(call)) => answer(&tree, &mut state, call),
@@ -255,24 +265,51 @@ mod tests {
 
     #[test]
     fn lines() {
-        assert_eq!(parse_line(""), Ok(None));
-        assert_eq!(parse_line("  # depart 5"), Ok(None));
-        assert_eq!(parse_line("depart 5 # the fifth"), Ok(Some(Call::Depart { stamp: 5 })));
-        assert_eq!(parse_line("start 4294967295"), Ok(Some(Call::Start { stamp: u32::MAX })));
-        assert_eq!(parse_line("start 4294967296"), Err(Fault::PastBits));
-        assert_eq!(parse_line("arrive 1 2 3"), Ok(Some(Call::Arrive { stamp: 1, class: 2, length: 3 })));
-        for wrong in ["arrive 1 2", "arrive 1 2 3 4", "depart", "depart x", "depart -1", "depart +1", "Depart 1", "wait 3", "5"] {
-            assert_eq!(parse_line(wrong), Err(Fault::NotACall), "{wrong}");
+        let says = |line: &str, call| assert_eq!(parse_line(line.as_bytes()), Ok(Some(call)), "{line}");
+        for nothing in ["", " \t\r", "  # depart 5", "#", "\r"] {
+            assert_eq!(parse_line(nothing.as_bytes()), Ok(None));
         }
+        says("depart 5 # the fifth", Call::Depart { stamp: 5 });
+        says("depart 5# the fifth", Call::Depart { stamp: 5 });
+        says("start 4294967295\r", Call::Start { stamp: u32::MAX });
+        says("\tarrive  1\t2 \r3 ", Call::Arrive { stamp: 1, class: 2, length: 3 });
+        says(&format!("start {}7", "0".repeat(100)), Call::Start { stamp: 7 });
+        for wrong in ["arrive 1 2", "arrive 1 2 3 4", "depart", "depart x", "depart -1", "depart +1", "Depart 1", "wait 3", "5", "start\x0b1", "start 1\0"] {
+            assert_eq!(parse_line(wrong.as_bytes()), Err(Fault::NotACall), "{wrong}");
+        }
+    }
+
+    /// The form is judged before the size of the numbers.
+    #[test]
+    fn numbers_past_32_bits() {
+        for large in ["start 4294967296", "depart 99999999999999999999999999", "arrive 4294967296 1 2", "arrive 1 4294967296 2", "arrive 1 2 4294967296"] {
+            assert_eq!(parse_line(large.as_bytes()), Err(Fault::TooLarge), "{large}");
+        }
+        for wrong in ["arrive 4294967296 x 2", "arrive x 1 4294967296", "arrive 4294967296 1", "depart 4294967296 1", "wait 4294967296", "depart 4294967296x"] {
+            assert_eq!(parse_line(wrong.as_bytes()), Err(Fault::NotACall), "{wrong}");
+        }
+    }
+
+    #[test]
+    fn lines_have_a_longest() {
+        let line = |length: usize| format!("depart 5 #{}", "x".repeat(length - 10));
+        assert_eq!(parse_line(line(LINE_TOP).as_bytes()), Ok(Some(Call::Depart { stamp: 5 })));
+        assert_eq!(parse_line(line(LINE_TOP + 1).as_bytes()), Err(Fault::NotACall));
+        assert_eq!(parse_line("#".repeat(LINE_TOP + 1).as_bytes()), Err(Fault::NotACall));
     }
 
     #[test]
     fn a_line_that_is_no_call_stops_the_replay() {
         let tree = crate::file::file_of(&two_leaves(), crate::file::Order::Big);
-        assert_eq!(replay(&tree, "# first\n\nstart 5\ndepart 6\nleave 7\ndepart 8\n"), "started 3\nnone waits\nline 5: not a call\n");
-        assert_eq!(replay(&tree, "depart 6\n"), "line 1: not a call\n");
-        assert_eq!(replay(&tree, ""), "");
-        assert_eq!(replay(&[], "start 5\n"), "refused 1 class 0\n");
+        let prints = |calls: &str, printed: &str| assert_eq!(replay(&tree, calls.as_bytes()), printed, "{calls}");
+        prints("# first\n\nstart 5\ndepart 6\nleave 7\ndepart 8\n", "started 3\nnone waits\nline 5: not a call\n");
+        prints("start 5\r\n\r\ndepart 6", "started 3\nnone waits\n");
+        prints("start 5\rdepart 6\n", "line 1: not a call\n");
+        prints("depart 6\n", "line 1: not a call\n");
+        prints("depart 4294967296\n", "line 1: number past 32 bits\n");
+        prints("start 5\nstart 5\n", "started 3\nline 2: not a call\n");
+        prints("", "");
+        assert_eq!(replay(&[], b"start 5\n"), "refused 1 class 0\n");
     }
 
     /// 2^40 accepted bytes are out of reach, so the limit is lowered to 10,000: exactly that is allowed.

@@ -117,7 +117,7 @@ fn stamps() {
 #[test]
 fn as_lines() {
     let file = outside::file::file_of(&tree_a(), outside::file::Order::Little);
-    let printed = outside::calls::replay(&file, "start 7\narrive 7 1 500\narrive 7 2 1000\ndepart 7\ndepart 507\ndepart 600\n");
+    let printed = outside::calls::replay(&file, b"start 7\narrive 7 1 500\narrive 7 2 1000\ndepart 7\ndepart 507\ndepart 600\n");
     let expected = "started 3\naccepted number 0\naccepted number 0\n\
         packet class 1 number 0 length 500 rule real-time eligible 0 deadline 1000\n\
         packet class 2 number 0 length 1000 rule real-time eligible 0 deadline 4000\nnone waits\n";

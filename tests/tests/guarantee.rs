@@ -71,7 +71,7 @@ impl Checker {
 fn check(tree: &Tree, lines: &[String]) -> Met {
     let mut checker = None;
     for line in lines {
-        let call = parse_line(line).unwrap().unwrap();
+        let call = parse_line(line.as_bytes()).unwrap().unwrap();
         if let Call::Start { stamp } = call {
             checker = Some(Checker { state: State::start(tree, stamp).unwrap(), link_free: 0, met: Met::default() });
         }

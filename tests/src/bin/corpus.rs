@@ -1,7 +1,6 @@
 //! `corpus FOLDER [SEED]` writes the stored corpus: NNN-sort.tree, NNN-sort.calls and NNN-sort.out, what the
-//! model answers. The same seed gives the same bytes.
+//! model prints; no NNN-sort.calls for a tree to be printed alone. The same seed gives the same bytes.
 
-use outside::calls::replay;
 use outside::gen::corpus;
 use std::path::Path;
 
@@ -20,7 +19,9 @@ fn main() {
             std::fs::write(path, bytes).expect("write a file of the corpus");
         };
         put("tree", &case.tree_file);
-        put("calls", case.calls.as_bytes());
-        put("out", replay(&case.tree_file, &case.calls).as_bytes());
+        if let Some(calls) = &case.calls {
+            put("calls", calls);
+        }
+        put("out", case.printed().as_bytes());
     }
 }

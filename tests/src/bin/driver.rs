@@ -1,10 +1,10 @@
 //! `driver REPLAY [--seed S] [--runs N] [--calls N] [--tree]`
-//! takes the cases told by hand and at the edge of each rule, then N cases from seed S on, runs the program REPLAY on each with two more arguments, TREE and CALLS, and
-//! compares what it prints with the model, line by line. With --tree it also compares what REPLAY prints for
+//! takes the cases told by hand and at the edge of each rule, on trees and on lines, then N cases from seed S on, runs the program REPLAY on each with two more arguments,
+//! TREE and CALLS, and compares what it prints with the model, line by line. With --tree it also compares what REPLAY prints for
 //! TREE alone. At the first difference it keeps the files, says where, and ends with status 1.
 
-use outside::calls::{replay, show_tree};
-use outside::gen::{by_hand, case, edges, sort_of_answer, Case};
+use outside::calls::show_tree;
+use outside::gen::{by_hand, case, edges, sort_of_answer, texts, Case};
 use std::collections::BTreeMap;
 use std::path::{Path, PathBuf};
 use std::process::{exit, Command};
@@ -78,14 +78,14 @@ fn compare(what: &str, folder: &Path, ours: &str, theirs: &str) {
 fn write_case(folder: &Path, case: &Case) -> (PathBuf, PathBuf) {
     let (tree, calls) = (folder.join("tree"), folder.join("calls"));
     std::fs::write(&tree, &case.tree_file).expect("write the tree file");
-    std::fs::write(&calls, &case.calls).expect("write the calls file");
+    std::fs::write(&calls, case.calls.as_deref().unwrap_or_default()).expect("write the calls file");
     (tree, calls)
 }
 
 /// Run the program on one case and compare; answers what the model printed.
 fn check(options: &Options, folder: &Path, case: &Case) -> String {
     let (tree, calls) = write_case(folder, case);
-    let expected = replay(&case.tree_file, &case.calls);
+    let expected = case.printed();
     compare(&case.name, folder, &expected, &output(&options.program, &[&tree, &calls]));
     if options.tree {
         let what = format!("{}, tree alone", case.name);
@@ -105,7 +105,7 @@ fn main() {
     let folder = std::env::temp_dir().join(format!("driver-{}", std::process::id()));
     std::fs::create_dir_all(&folder).expect("make a temporary folder");
     let seeds = options.seed..options.seed + options.runs;
-    let told = by_hand().into_iter().chain(edges());
+    let told = by_hand().into_iter().chain(edges()).chain(texts());
     let (mut cases, mut seen) = (0, BTreeMap::<String, usize>::new());
     for case in told.chain(seeds.map(|seed| seeded(&options, seed))) {
         cases += 1;

@@ -1,18 +1,34 @@
-//! Cases: a tree file and a file of calls; by seed, by hand, and for the stored corpus.
+//! Cases: a tree file and a file of calls, or a tree file alone; by seed, by hand, and for the stored corpus.
 
 use super::damage::{damaged_file, edge_files};
 use super::dice::Dice;
 use super::runs::{disciplined_run, full_run, late_run, loose_run, same_tick_run, Run};
-use super::trees::tree_a;
+use super::text::text_files;
+use super::trees::{random_tree, tree_a};
+use crate::calls::{replay, show_tree};
 use crate::curves::Curve;
 use crate::file::{file_of, Order};
 use crate::tree::{Class, Tree};
 
-/// A tree file and a file of calls.
+/// A tree file and a file of calls, or a tree file alone, to be printed.
 pub struct Case {
     pub name: String,
     pub tree_file: Vec<u8>,
-    pub calls: String,
+    pub calls: Option<Vec<u8>>,
+}
+
+impl Case {
+    fn new(name: impl Into<String>, tree_file: Vec<u8>, calls: impl Into<Vec<u8>>) -> Case {
+        Case { name: name.into(), tree_file, calls: Some(calls.into()) }
+    }
+
+    /// What the model prints for it.
+    pub fn printed(&self) -> String {
+        match &self.calls {
+            Some(calls) => replay(&self.tree_file, calls),
+            None => show_tree(&self.tree_file),
+        }
+    }
 }
 
 /// Comments and blank lines here and there, and at times a line that is no call.
@@ -25,7 +41,9 @@ fn as_text(dice: &mut Dice, lines: &[String]) -> String {
             text += dice.pick(&["\n", "# a comment\n", "#\n", "# depart 5\n"]);
         }
         if number == broken {
-            text += dice.pick(&["leave 5\n", "depart\n", "arrive 1 2\n", "depart 5 6\n", "depart x\n", "arrive 1 -2 3\n"]);
+            text += dice.pick(&[
+                "leave 5\n", "depart\n", "arrive 1 2\n", "depart 5 6\n", "depart x\n", "arrive 1 -2 3\n", "depart 4294967296\n", "arrive 1 2 99999999999\n",
+            ]);
         }
         let tail = if chatty && dice.chance(1, 12) { " # so far" } else { "" };
         text += &format!("{line}{tail}\n");
@@ -36,7 +54,7 @@ fn as_text(dice: &mut Dice, lines: &[String]) -> String {
 fn case_of_run(dice: &mut Dice, name: &str, run: &Run) -> Case {
     let order = dice.pick(&[Order::Big, Order::Big, Order::Little]);
     let tree_file = file_of(&run.state.history.tree, order);
-    Case { name: name.to_string(), tree_file, calls: as_text(dice, &run.lines) }
+    Case::new(name, tree_file, as_text(dice, &run.lines))
 }
 
 /// Calls that show what was read, should the file be right.
@@ -44,7 +62,7 @@ const FEW_CALLS: &str = "start 5\narrive 6 1 500\narrive 6 2 900\ndepart 7\ndepa
 
 fn case_of_damage(dice: &mut Dice, number: u32) -> Case {
     let tree_file = damaged_file(dice, number);
-    Case { name: format!("damaged-{number}"), tree_file, calls: FEW_CALLS.to_string() }
+    Case::new(format!("damaged-{number}"), tree_file, FEW_CALLS)
 }
 
 /// The case of a seed: mostly runs, now and then a damaged file, seldom a run to the top of the clock.
@@ -67,7 +85,7 @@ pub fn case(seed: u64, calls: usize) -> Case {
 
 /// The files at the edge of each rule, each with a few calls.
 pub fn edges() -> Vec<Case> {
-    let case = |(name, tree_file)| Case { name: format!("edge-{name}"), tree_file, calls: FEW_CALLS.to_string() };
+    let case = |(name, tree_file)| Case::new(format!("edge-{name}"), tree_file, FEW_CALLS);
     edge_files().into_iter().map(case).collect()
 }
 
@@ -76,8 +94,7 @@ fn leaf(parent: u32, share: u32, curve: Curve) -> Class {
 }
 
 fn told(name: &str, tree: &Tree, calls: &[&str]) -> Case {
-    let calls = format!("{}\n", calls.join("\n"));
-    Case { name: name.to_string(), tree_file: file_of(tree, Order::Big), calls }
+    Case::new(name, file_of(tree, Order::Big), format!("{}\n", calls.join("\n")))
 }
 
 /// The situations of the document's example table.
@@ -123,6 +140,27 @@ pub fn by_hand() -> Vec<Case> {
     rows().into_iter().chain(marks()).collect()
 }
 
+/// Files of calls at the edge of each rule on lines.
+pub fn texts() -> Vec<Case> {
+    let tree_file = file_of(&tree_a(), Order::Big);
+    text_files().into_iter().map(|(name, calls)| Case::new(format!("text-{name}"), tree_file.clone(), calls)).collect()
+}
+
+/// Tree files to be printed alone: right ones, and some for each refusal.
+fn trees_alone(dice: &mut Dice) -> Vec<Case> {
+    let mut files: Vec<(String, Vec<u8>)> = Vec::new();
+    for (name, order) in [("big", Order::Big), ("little", Order::Little)] {
+        files.push((format!("a-{name}"), file_of(&tree_a(), order)));
+        files.push((format!("any-{name}"), file_of(&random_tree(dice), order)));
+    }
+    let told = ["smallest", "count-65", "classes-64", "depth-8", "depth-9", "inside-1", "fit-one-part-over", "root-with-curve", "length-2-long"];
+    files.extend(edge_files().into_iter().filter(|(name, _)| told.contains(&name.as_str())));
+    for number in 1..=10 {
+        files.push((format!("damaged-{number}"), damaged_file(dice, number)));
+    }
+    files.into_iter().map(|(name, tree_file)| Case { name: format!("alone-{name}"), tree_file, calls: None }).collect()
+}
+
 /// The cases of the stored corpus: some of each sort.
 pub fn corpus(seed: u64) -> Vec<Case> {
     let mut dice = Dice::new(seed);
@@ -147,6 +185,8 @@ pub fn corpus(seed: u64) -> Vec<Case> {
     let (late, full) = (late_run(dice, 30), full_run(dice));
     cases.push(case_of_run(dice, "late", &late));
     cases.push(case_of_run(dice, "full", &full));
+    cases.extend(texts());
+    cases.extend(trees_alone(dice));
     cases
 }
 
@@ -158,7 +198,7 @@ pub fn sort_of_answer(line: &str) -> String {
         ["refused", _] | ["none", "waits"] => line.to_string(),
         ["packet", .., "rule", "fair"] => "fair without curve".to_string(),
         ["packet", .., "rule", rule, "eligible", _, "deadline", _] => rule.to_string(),
-        ["line", _, "not", "a", "call"] => "not a call".to_string(),
+        ["line", _, ref why @ ..] => why.join(" "),
         [first, ..] => first.to_string(),
         [] => String::new(),
     }

@@ -2,7 +2,6 @@
 
 use super::trees::{curved, raised};
 use super::*;
-use crate::calls::replay;
 use crate::file::read;
 use std::collections::BTreeMap;
 
@@ -31,7 +30,7 @@ fn cases_reach_every_answer() {
     let mut seen: BTreeMap<String, usize> = BTreeMap::new();
     for seed in 0..400 {
         let case = case(seed, 120);
-        for line in replay(&case.tree_file, &case.calls).lines() {
+        for line in case.printed().lines() {
             *seen.entry(sort_of_answer(line)).or_default() += 1;
         }
     }
@@ -39,7 +38,7 @@ fn cases_reach_every_answer() {
     for number in 1..=10 {
         assert!(seen.contains_key(&format!("tree refused {number}")), "{number}: {seen:?}");
     }
-    for sort in ["refused 11", "refused 12", "refused 13", "refused 14", "refused 15", "none waits", "real-time", "fair", "fair without curve", "accepted", "not a call"] {
+    for sort in ["refused 11", "refused 12", "refused 13", "refused 14", "refused 15", "none waits", "real-time", "fair", "fair without curve", "accepted", "not a call", "number past 32 bits"] {
         assert!(seen.contains_key(sort), "{sort}: {seen:?}");
     }
 }
@@ -67,7 +66,7 @@ fn damage_mostly_gives_the_refusal_aimed_at() {
 /// At the edge of each rule the refusals come with the classes that they must name.
 #[test]
 fn edges_are_where_they_should_be() {
-    let answers: Vec<String> = edges().iter().map(|case| replay(&case.tree_file, &case.calls).lines().next().unwrap().to_string()).collect();
+    let answers: Vec<String> = edges().iter().map(|case| case.printed().lines().next().unwrap().to_string()).collect();
     let count = |sort: &str| answers.iter().filter(|answer| answer.starts_with(sort)).count();
     for number in 1..=10 {
         assert!(count(&format!("refused {number} class")) >= 2, "{number}");
@@ -88,7 +87,7 @@ fn marks_by_hand() {
     let classes = |name: &str| {
         let cases = by_hand();
         let case = cases.iter().find(|case| case.name == name).unwrap();
-        let printed = replay(&case.tree_file, &case.calls);
+        let printed = case.printed();
         let class = |line: &str| line.strip_prefix("packet class ").and_then(|rest| rest[..1].parse::<u32>().ok());
         printed.lines().filter_map(class).collect::<Vec<u32>>()
     };
