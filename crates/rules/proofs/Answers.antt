@@ -10,6 +10,7 @@ use lib.ListN.{length}
 use lib.Dec.{leb, ltb}
 use borrow.Author.Tests.{leb-true, leb-false, ltb-false, not-false, le-leb, lt-leb, le-ltb}
 use Rattle.curve.proofs.Laws.Answers.{least-one}
+use Rattle.curve.proofs.Laws.Times.{deadline-exists, eligible-exists}
 use Rattle.tree.specs.declared.Tree.{Tree}
 use Rattle.tree.specs.declared.Refusal.{Refusal}
 use Rattle.tree.specs.declared.Refusal.the-variants.{NoSuchLeaf, WrongLength, LeafFull, StampTooFar, ClockFull, BytesFull}
@@ -45,7 +46,6 @@ use Rattle.rules.proofs.Trees.{leaf-class, curve-rising}
 use Rattle.rules.proofs.Queues.{waits-leaf}
 use Rattle.rules.proofs.Active.{choice-waits, choice-leaf}
 use Rattle.rules.proofs.Choice.{choice-one, choice-exists}
-use Rattle.rules.proofs.Least.{deadline-exists, eligible-exists}
 
 -- checks
 

@@ -9,6 +9,7 @@ use mathlib.Core.Bool.{true, false, _&&_}
 use mathlib.Core.List.{List}
 use Rattle.curve.proofs.Laws.Answers.{least-one}
 use Rattle.curve.proofs.Laws.Order.{le-or-lt}
+use Rattle.curve.proofs.Laws.Times.{deadline-exists, eligible-exists}
 use Rattle.tree.specs.declared.Tree.{Tree}
 use Rattle.tree.specs.Trees.{curveOf, isChild, isLeaf}
 use Rattle.rules.specs.declared.Rule.{Rule}
@@ -26,7 +27,6 @@ use Rattle.rules.proofs.Over.{any-which, last-or-below}
 use Rattle.rules.proofs.Trees.{leaf-class, child-class, child-parent, child-some, parent-lower, leaf-childless, within-top, curve-rising}
 use Rattle.rules.proofs.Active.{active-of, interior-active}
 use Rattle.rules.proofs.Queues.{waits-leaf}
-use Rattle.rules.proofs.Least.{deadline-exists, eligible-exists}
 
 -- At most one.
 

@@ -10,7 +10,7 @@ use mathlib.Core.List.{List, [], _∷_}
 use lib.Dec.{eqb}
 use borrow.Author.Tests.{ne-eqb}
 use Rattle.curve.specs.Curves.{inParts}
-use Rattle.curve.specs.Pieces.{latest, Orderly, VirtualTime}
+use Rattle.curve.specs.Pieces.{latest, VirtualTime}
 use Rattle.curve.specs.declared.Piece.{Piece}
 use Rattle.tree.specs.declared.Tree.{Tree}
 use Rattle.tree.specs.Trees.{parentOf, shareOf, isChild}
@@ -26,7 +26,7 @@ use Rattle.rules.proofs.Tests.{never, decided, equal-or-not, is-false, 
 use Rattle.rules.proofs.Over.{any-which, any-none, none-any, largest-least, largest-most, largest-only, largest-none, largest-same, smallest-most}
 use Rattle.rules.proofs.Trees.{leaf-class, child-class, child-parent, a-child, share-some, within-one, within-parent}
 use Rattle.rules.proofs.Active.{active-of, active-came, active-idle, choice-waits, choice-leaf}
-use Rattle.rules.proofs.Leaves.{InOrder, in-order-later, in-order-new}
+use Rattle.rules.proofs.Leaves.{InOrder, in-order-none, in-order-later, in-order-new}
 use Rattle.rules.proofs.Virtual.{virtual-mono, virtual-older, virtual-latest, virtual-is-least, rounded-most}
 
 -- w never falls
@@ -99,8 +99,8 @@ module _ (tree : Tree) (grown : Grown tree) where
 
   -- the fair pieces of a class are in order, and none starts after the mark
   pub fair-in-order : (cs : List Call) (i : ℕ) → i < tree .count → InOrder (fairPieces tree cs i) (mark tree cs (parentOf tree i)) (sent tree cs i)
-  unfolding fairPieces Orderly
-  fair-in-order [] i below = record { order = tt; latest = omega arith; sent = omega arith }
+  unfolding fairPieces
+  fair-in-order [] i below = in-order-none _ _
   fair-in-order (came at j n ∷ cs) i below =
       let rest = fair-in-order cs i below in
       by-cond (λ (ps : List Piece). InOrder ps (mark tree (came at j n ∷ cs) (parentOf tree i)) (sent tree (came at j n ∷ cs) i)) (turnsActive tree cs j i)

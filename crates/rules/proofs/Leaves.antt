@@ -9,8 +9,11 @@ use mathlib.Core.List.{List, [], _∷_}
 use lib.Dec.{eqb}
 use borrow.Author.Tests.{eqb-false}
 use Rattle.curve.specs.Curves.{inParts}
-use Rattle.curve.specs.Pieces.{latest, latestSent, Follows, Orderly}
+use Rattle.curve.specs.Pieces.{latest, latestSent, Orderly}
 use Rattle.curve.specs.declared.Piece.{Piece}
+use Rattle.curve.proofs.Laws.Lists.{orderly-none, orderly-more}
+use Rattle.curve.proofs.Laws.Leaf.{eligible-deadline}
+use Rattle.curve.proofs.Laws.Times.{deadline-most}
 use Rattle.tree.specs.declared.Tree.{Tree}
 use Rattle.tree.specs.Trees.{curveOf}
 use Rattle.rules.specs.Limits.{end, weigh}
@@ -22,7 +25,6 @@ use Rattle.rules.specs.Choice.{hasCurve}
 use Rattle.rules.specs.Lawful.{Grown, LawfulCalls}
 use Rattle.rules.proofs.Tests.{never, by-cond}
 use Rattle.rules.proofs.Queues.{queue-came-other, waits-left-before, waits-leaf}
-use Rattle.rules.proofs.Least.{eligible-first, deadline-most}
 use Rattle.rules.proofs.Trees.{leaf-class, curve-rising}
 use Rattle.rules.proofs.Sent.{clock-most, accepted-most, due-below-accepted}
 
@@ -35,15 +37,15 @@ pub record InOrder (ps : List Piece) (now c : ℕ) : Type 0 where
 pub in-order-later : {ps : List Piece} {now c : ℕ} (then d : ℕ) → now ≤ then → c ≤ d → InOrder ps now c → InOrder ps then d
 in-order-later then d l m h = record { order = h .order; latest = le-trans (h .latest) l; sent = le-trans (h .sent) m }
 
-follows : (at c : ℕ) (ps : List Piece) → latest ps ≤ at → latestSent ps ≤ c → Follows (record { start = at; sent = c }) ps
-unfolding Follows
-follows at c [] l m = tt
-follows at c (q ∷ qs) l m = (l, m)
+pub in-order-none : (now c : ℕ) → InOrder [] now c
+in-order-none now c = record { order = orderly-none; latest = omega arith; sent = omega arith }
 
 pub in-order-new : (ps : List Piece) (now c at : ℕ) → now ≤ at → InOrder ps now c → InOrder (record { start = at; sent = c } ∷ ps) at c
-unfolding Orderly
-in-order-new ps now c at l h =
-    record { order = (follows at c ps (le-trans (h .latest) l) (h .sent), h .order); latest = omega arith; sent = omega arith }
+in-order-new ps now c at l h = record {
+  order = orderly-more (record { start = at; sent = c }) ps (le-trans (h .latest) l) (h .sent) (h .order);
+  latest = omega arith;
+  sent = omega arith;
+}
 
 -- the bytes sent by the real-time rule never fall
 sent-rises : (c : Call) (cs : List Call) (j : ℕ) → sentRealTime cs j ≤ sentRealTime (c ∷ cs) j
@@ -53,8 +55,8 @@ sent-rises (left at k r) cs j = by-cond (λ (x : ℕ). sentRealTime cs j ≤ x) 
 sent-rises (idle at) cs j = omega arith
 
 pub pieces-in-order : (tree : Tree) (cs : List Call) → LawfulCalls tree cs → (j : ℕ) → InOrder (pieces cs j) (clock cs) (sentRealTime cs j)
-unfolding LawfulCalls clock pieces Orderly
-pieces-in-order tree [] law j = record { order = tt; latest = omega arith; sent = omega arith }
+unfolding LawfulCalls clock pieces
+pieces-in-order tree [] law j = in-order-none _ _
 pieces-in-order tree (came at k n ∷ cs) law j =
     let rest = pieces-in-order tree cs (law .1) j in
     let old = in-order-later at (sentRealTime (came at k n ∷ cs) j) (law .0 .0 .forward) (sent-rises (came at k n) cs j) rest in
@@ -85,8 +87,7 @@ has-piece (idle at ∷ cs) j w = has-piece cs j w
 
 -- "eligible time" is not after "deadline"
 pub eligible-before-deadline : (tree : Tree) (cs : List Call) (j e d : ℕ) → EligibleOf tree cs j e → DeadlineOf tree cs j d → e ≤ d
-eligible-before-deadline tree cs j e d eligible deadline =
-    eligible-first (curveOf tree j) (pieces cs j) (sentRealTime cs j) (weigh (headLength cs j)) eligible deadline
+eligible-before-deadline tree cs j e d eligible deadline = eligible-deadline (omega arith) eligible deadline
 
 -- a deadline is at most 2^56 + 2^40 + 2^20
 pub deadline-below : (tree : Tree) → Grown tree → (cs : List Call) → LawfulCalls tree cs → (j d : ℕ) → waits cs j ≡ true

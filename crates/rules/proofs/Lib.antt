@@ -6,7 +6,6 @@ pub mod Over
 pub mod Trees
 pub mod Queues
 pub mod Active
-pub mod Least
 pub mod Choice
 pub mod Answers
 pub mod Virtual

@@ -4,10 +4,12 @@ use Prim.Native.Nat.{ℕ, _+_, _-_, _*_, _≤_}
 use native.Mathlib.Omega.{arith}
 use native.Mathlib.Nat.{lt-mul-div-succ, div-lt-iff-lt-mul, mul-le-mul-left, mul-le-mul-right, le-trans}
 use mathlib.Core.List.{List, [], _∷_}
-use Rattle.curve.specs.Curves.{amount, inParts}
-use Rattle.curve.specs.Pieces.{standing, EveryPiece, latest, VirtualTime, Follows, Orderly}
+use Rattle.curve.specs.Curves.{inParts}
+use Rattle.curve.specs.Pieces.{EveryPiece, latest, VirtualTime, Orderly}
 use Rattle.curve.specs.declared.Curve.the-variants.{Straight}
 use Rattle.curve.specs.declared.Piece.{Piece}
+use Rattle.curve.proofs.Laws.Pieces.{standing-straight}
+use Rattle.curve.proofs.Laws.Lists.{every-none, every-more, every-head, every-rest, orderly-rest, orderly-start}
 use Rattle.rules.specs.Fair.{roundedUp, virtualTime}
 
 -- a quotient rounded up is the least that is enough
@@ -42,31 +44,29 @@ unfolding virtualTime
 virtual-older share p ps w = omega arith
 
 virtual-every : (share : ℕ) (ps : List Piece) (w v : ℕ) → 1 ≤ share → virtualTime share ps w ≤ v → EveryPiece (Straight share) ps v (inParts w)
-unfolding virtualTime EveryPiece standing amount
-virtual-every share [] w v some h = tt
-virtual-every share (p ∷ ps) w v some h = (
-  omega (
-    arith,
-    rounded-enough (inParts (w - p .sent)) share some,
-    mul-le-mul-left {m = roundedUp (inParts (w - p .sent)) share} {n = v - p .start} share (omega arith),
-  ),
-  virtual-every share ps w v some (omega arith),
-)
-
-pub follows-start : (p : Piece) (ps : List Piece) → Follows p ps → latest ps ≤ p .start
-unfolding Follows
-follows-start p [] h = omega arith
-follows-start p (q ∷ qs) h = h .0
+unfolding virtualTime
+virtual-every share [] w v some h = every-none (Straight share) v (inParts w)
+virtual-every share (p ∷ ps) w v some h =
+    every-more (Straight share) p ps v (inParts w)
+    (omega (
+      arith,
+      standing-straight share p v,
+      rounded-enough (inParts (w - p .sent)) share some,
+      mul-le-mul-left {m = roundedUp (inParts (w - p .sent)) share} {n = v - p .start} share (omega arith),
+    ))
+    (virtual-every share ps w v some (omega arith))
 
 virtual-least : (share : ℕ) (ps : List Piece) (w u : ℕ) → 1 ≤ share → Orderly ps → latest ps ≤ u → EveryPiece (Straight share) ps u (inParts w)
     → virtualTime share ps w ≤ u
-unfolding virtualTime EveryPiece standing amount Orderly Follows
+unfolding virtualTime
 virtual-least share [] w u some order after every = omega arith
 virtual-least share (p ∷ ps) w u some order after every =
     omega (
       arith,
-      rounded-least (inParts (w - p .sent)) share (u - p .start) some (omega (arith, every .0)),
-      virtual-least share ps w u some (order .1) (le-trans (follows-start p ps (order .0)) after) (every .1),
+      rounded-least (inParts (w - p .sent)) share (u - p .start) some
+          (omega (arith, every-head (Straight share) p ps u (inParts w) every, standing-straight share p u)),
+      virtual-least share ps w u some (orderly-rest p ps order) (le-trans (orderly-start p ps order) after)
+          (every-rest (Straight share) p ps u (inParts w) every),
     )
 
 -- "Its virtual time is the least whole v, not before its latest start, at which every fair piece of its history is at least 65,536·w"

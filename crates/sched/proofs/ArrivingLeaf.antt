@@ -7,11 +7,11 @@ use mathlib.Core.Bool.{Bool, true, false, _&&_}
 use mathlib.Core.List.{List, [], _∷_, _++_}
 use lib.Dec.{eqb}
 use borrow.Author.Tests.{eq-eqb, ne-eqb, eqb-true}
-use Rattle.curve.specs.Pieces.{firstSlope, lastSlope, keptOf, keptWith}
+use Rattle.curve.specs.Pieces.{keptOf, keptWith}
 use Rattle.curve.specs.declared.Curve.{Curve}
 use Rattle.curve.specs.declared.Piece.{Piece}
 use Rattle.curve.specs.declared.Kept.{Kept}
-use Rattle.curve.proofs.Laws.Kept.{lowest-start, kept-more}
+use Rattle.curve.proofs.Laws.Kept.{kept-start, kept-more}
 use Rattle.tree.specs.declared.Tree.{Tree}
 use Rattle.tree.specs.Trees.{curveOf}
 use Rattle.rules.specs.Calls.{Call, came, left, idle}
@@ -75,8 +75,7 @@ unsent tree grown (idle at ∷ cs) law j e = unsent tree grown cs (law .1) j e
 
 -- what is kept after one piece more, the first one too
 pub kept-adds : (S : Curve) (ps : List Piece) (p : Piece) → (NoPiece ps → p .sent ≡ 0) → keptWith S (keptOf S ps) p ≡ keptOf S (p ∷ ps)
-unfolding keptOf keptWith
-kept-adds S [] p h = λ i. record { steep = lowest-start (firstSlope S) p (h tt) i; flat = lowest-start (lastSlope S) p (h tt) i }
+kept-adds S [] p h = kept-start S p (h tt)
 kept-adds S (q ∷ qs) p h = kept-more S p q qs
 
 -- the head after an arrival

@@ -5,17 +5,17 @@ use native.Mathlib.Omega.{arith}
 use native.Mathlib.Nat.{le-trans}
 use mathlib.Core.Path.{_≡_, refl, _∙_, ap}
 use mathlib.Core.Bool.{true, false}
-use mathlib.Core.List.{List, [], _∷_}
+use mathlib.Core.List.{List}
 use lib.ListN.{length}
 use borrow.Author.Tests.{eq-eqb, ne-eqb}
 use Rattle.curve.specs.Curves.{Rising, RightCurve}
 use Rattle.curve.specs.Fit.{bendOf}
-use Rattle.curve.specs.Pieces.{Orderly, latest, lowest, firstSlope, lastSlope, keptOf}
+use Rattle.curve.specs.Pieces.{firstSlope, keptOf}
 use Rattle.curve.specs.declared.Curve.{Curve}
 use Rattle.curve.specs.declared.Curve.the-variants.{None, Straight, FrontLoaded, Delayed}
-use Rattle.curve.specs.declared.Piece.{Piece}
 use Rattle.curve.specs.declared.Kept.{Kept}
-use Rattle.curve.proofs.Laws.Kept.{lowest-one, every-map, orderly-first}
+use Rattle.curve.proofs.Laws.Limits.{straight-limits, front-limits, delayed-limits}
+use Rattle.curve.proofs.Laws.Kept.{kept-latest}
 use Rattle.tree.specs.declared.Tree.{Tree}
 use Rattle.tree.specs.Rules.{RightTree}
 use Rattle.tree.specs.Trees.{curveOf}
@@ -93,11 +93,10 @@ curve-in {m} {tree} {i} s =
     columns ∙ curve-by (curveOf tree i)
 
 narrow : (S : Curve) → RightCurve S → (firstSlope S < 2 ^ 32) × (bendOf S < 2 ^ 32) × (secondRate S < 2 ^ 32)
-unfolding RightCurve
 narrow None r = (omega arith, omega arith, omega arith)
-narrow (Straight m) r = (omega (arith, r .below), omega arith, omega arith)
-narrow (FrontLoaded m₁ d m₂) r = (omega (arith, r .first .below), omega (arith, r .bend .below), omega (arith, r .last .below))
-narrow (Delayed d m) r = (omega (arith, r .rate .below), omega (arith, r .bend .below), omega arith)
+narrow (Straight m) r = let limits = straight-limits m r in (omega arith, omega arith, omega arith)
+narrow (FrontLoaded m₁ d m₂) r = let limits = front-limits m₁ d m₂ r in (omega arith, omega arith, omega arith)
+narrow (Delayed d m) r = let limits = delayed-limits d m r in (omega arith, omega arith, omega arith)
 
 module _ {m : List ℕ} {tree : Tree} (right : RightTree tree) {i : ℕ} (below : i < tree .count) (shows : ShowsTree m tree i) where
   pub narrow-curve : NarrowCurve m i
@@ -121,20 +120,14 @@ unfolding keptFor
 kept-bare tree cs i e = rw e refl
 
 -- no kept piece starts after the clock
-lowest-soon : (m now : ℕ) (ps : List Piece) → Orderly ps → latest ps ≤ now → lowest m ps .start ≤ now
-lowest-soon m now [] o l = unfold lowest in (omega arith)
-lowest-soon m now (p ∷ ps) o l = lowest-one (λ q. q .start ≤ now) m p ps (every-map (λ q h. le-trans (h .0) l) (p ∷ ps) (orderly-first p ps o))
-
 pub kept-started : (tree : Tree) (cs : List Call) → LawfulCalls tree cs → (i : ℕ)
     → (keptFor tree cs i .steep .start ≤ clock cs) × (keptFor tree cs i .flat .start ≤ clock cs)
-unfolding keptFor keptOf
+unfolding keptFor
 kept-started tree cs law i =
     let order = pieces-in-order tree cs law i in
+    let latest = kept-latest (curveOf tree i) (pieces cs i) (order .order) in
     by-cond (λ (k : Kept). (k .steep .start ≤ clock cs) × (k .flat .start ≤ clock cs)) (hasCurve (curveOf tree i))
-    (λ e. (
-      lowest-soon (firstSlope (curveOf tree i)) (clock cs) (pieces cs i) (order .order) (order .latest),
-      lowest-soon (lastSlope (curveOf tree i)) (clock cs) (pieces cs i) (order .order) (order .latest),
-    ))
+    (λ e. (le-trans (latest .0) (order .latest), le-trans (latest .1) (order .latest)))
     (λ e. (omega arith, omega arith))
 
 pub kept-soon : {m : List ℕ} (tree : Tree) (cs : List Call) → LawfulCalls tree cs → {i : ℕ} → keptIn m i ≡ keptFor tree cs i → KeptSoon m i

@@ -10,11 +10,11 @@ use lib.Dec.{eqb}
 use borrow.Author.Tests.{ne-eqb}
 use Rattle.curve.specs.Answers.{Least}
 use Rattle.curve.specs.Curves.{RightRate, mostStart}
-use Rattle.curve.specs.Pieces.{latest, latestSent, lowest, Orderly, Stands}
+use Rattle.curve.specs.Pieces.{latestSent, lowest, Orderly, Stands}
 use Rattle.curve.specs.declared.Curve.the-variants.{Straight}
 use Rattle.curve.specs.declared.Piece.{Piece}
 use Rattle.curve.proofs.Laws.Answers.{least-one}
-use Rattle.curve.proofs.Laws.Kept.{orderly-first, lowest-one, virtual-kept}
+use Rattle.curve.proofs.Laws.Kept.{lowest-latest, virtual-kept}
 use Rattle.tree.specs.declared.Tree.{Tree}
 use Rattle.tree.specs.Trees.{parentOf, shareOf}
 use Rattle.tree.specs.Rules.{RightTree, RightClass}
@@ -55,12 +55,6 @@ pub root-virtual : (tree : Tree) (cs : List Call) → virtualTimeOf tree cs 0 �
 unfolding virtualTime
 root-virtual tree cs = ap (λ (ps : List Piece). virtualTime (shareOf tree 0) ps (sent tree cs 0)) (root-pieces tree cs)
 
--- the kept piece starts no later than the latest
-pub lowest-early : (m : ℕ) (ps : List Piece) → Orderly ps → lowest m ps .start ≤ latest ps
-unfolding lowest
-lowest-early m [] order = omega arith
-lowest-early m (p ∷ ps) order = unfold lowest in (lowest-one (λ q. (q .start ≤ p .start) × (q .sent ≤ p .sent)) m p ps (orderly-first p ps order) .0)
-
 -- the kept piece gives the virtual time
 pub kept-virtual : (share : ℕ) → RightRate share → (ps : List Piece) → Some ps → Orderly ps → (w v : ℕ) → latestSent ps ≤ w
     → Least (Stands (Straight share) (lowest share ps) w) v → v ≡ virtualTime share ps w
@@ -100,7 +94,7 @@ module _ (tree : Tree) (grown : Grown tree) where
   kept-start-most cs law i some below =
       omega (
         arith,
-        lowest-early (shareOf tree i) (fairPieces tree cs i) (fair-in-order tree grown cs i below .order),
+        lowest-latest (shareOf tree i) (fairPieces tree cs i) (fair-in-order tree grown cs i below .order),
         start-most tree grown cs law (parentOf tree i) i (a-child tree i some below),
         w-most tree grown cs law (parentOf tree i),
       )

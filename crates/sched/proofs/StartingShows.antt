@@ -7,13 +7,14 @@ use mathlib.Core.List.{List, []}
 use mathlib.Core.Logic.{⊎-elim}
 use native.Mathlib.Omega.{arith}
 use lib.ListN.{length}
-use Rattle.curve.specs.Pieces.{lowest, keptOf}
+use Rattle.curve.specs.declared.Piece.{Piece}
 use Rattle.curve.specs.declared.Kept.{Kept}
+use Rattle.curve.proofs.Laws.Kept.{lowest-none, kept-none}
 use Rattle.curve.proofs.Laws.Order.{le-or-lt}
 use Rattle.tree.specs.declared.Tree.{Tree}
 use Rattle.tree.specs.declared.Verdict.{Verdict}
 use Rattle.tree.specs.Rules.{RightTree, Judged}
-use Rattle.tree.specs.Trees.{classAt, curveOf, isLeaf, isChild, emptyTree}
+use Rattle.tree.specs.Trees.{classAt, shareOf, curveOf, isLeaf, isChild, emptyTree}
 use Rattle.tree.proofs.Right.{root, parent-lower}
 use Rattle.rules.specs.Limits.{wheel}
 use Rattle.rules.specs.Clock.{clock}
@@ -28,7 +29,7 @@ use Rattle.rules.proofs.Over.{none-any}
 use Rattle.rules.proofs.Answers.{first-kept, starts-lawful}
 use Rattle.sched.specs.Table.{at, with}
 use Rattle.sched.specs.Columns as col
-use Rattle.sched.specs.State.{keptFor, noKept, activity, ShowsHeader, ShowsTree, ShowsLeaf, ShowsFair, ShowsSlots, Shows, Reached}
+use Rattle.sched.specs.State.{keptFor, noKept, fairKept, activity, ShowsHeader, ShowsTree, ShowsLeaf, ShowsFair, ShowsSlots, Shows, Reached}
 use Rattle.sched.specs.Promises.{StartRight}
 use Rattle.sched.specs.Planting.{AllZero, plantedCell, PlantedBelow, OnlyHeader, Linkable, Linked}
 use Rattle.sched.proofs.Cells.{length-with, at-with-same, at-with-class, at-with-column}
@@ -85,9 +86,9 @@ headed-only a = record { size = a .size; rows = a .rows }
 
 -- the definitions at no calls
 
-kept-none : (tree : Tree) (i : ℕ) → keptFor tree [] i ≡ noKept
-unfolding keptFor keptOf lowest pieces
-kept-none tree i = by-cond (λ (k : Kept). k ≡ noKept) (hasCurve (curveOf tree i)) (λ e. refl) (λ e. refl)
+nothing-kept : (tree : Tree) (i : ℕ) → keptFor tree [] i ≡ noKept
+unfolding keptFor pieces
+nothing-kept tree i = by-cond (λ (k : Kept). k ≡ noKept) (hasCurve (curveOf tree i)) (λ e. kept-none (curveOf tree i)) (λ e. refl)
 
 none-waits : (i : ℕ) → waits [] i ≡ false
 unfolding queue
@@ -193,7 +194,7 @@ module _ {m m₁ m₂ : List ℕ} {tree : Tree} {stamp : ℕ} (few : tree .count
   leaf-shown : (i : ℕ) → i < tree .count → ShowsLeaf m₂ tree [] i
   unfolding plantedCell nextNumber headNumber sentRealTime queue
   leaf-shown i h =
-      let kept : (part : Kept → ℕ) → part noKept ≡ part (keptFor tree [] i) = λ part. ap part (sym (kept-none tree i)) in
+      let kept : (part : Kept → ℕ) → part noKept ≡ part (keptFor tree [] i) = λ part. ap part (sym (nothing-kept tree i)) in
       record {
         came = later col.CAME (omega arith) (omega arith) (λ k. refl) i h;
         left = later col.LEFT (omega arith) (omega arith) (λ k. refl) i h;
@@ -209,12 +210,13 @@ module _ {m m₁ m₂ : List ℕ} {tree : Tree} {stamp : ℕ} (few : tree .count
       }
 
   fair-shown : (i : ℕ) → i < tree .count → ShowsFair m₂ tree [] i
-  unfolding plantedCell sent lowest fairPieces virtualTime mark
+  unfolding plantedCell sent fairPieces virtualTime mark
   fair-shown i h =
+      let kept : (part : Piece → ℕ) → part (record { start = 0; sent = 0 }) ≡ part (fairKept tree [] i) = λ part. ap part (sym (lowest-none (shareOf tree i))) in
       record {
         sent = later col.SENT (omega arith) (omega arith) (λ k. refl) i h;
-        fairStart = later col.FAIR-START (omega arith) (omega arith) (λ k. refl) i h;
-        fairSent = later col.FAIR-SENT (omega arith) (omega arith) (λ k. refl) i h;
+        fairStart = later col.FAIR-START (omega arith) (omega arith) (λ k. refl) i h ∙ kept (λ p. p .start);
+        fairSent = later col.FAIR-SENT (omega arith) (omega arith) (λ k. refl) i h ∙ kept (λ p. p .sent);
         virtual = later col.VIRTUAL (omega arith) (omega arith) (λ k. refl) i h;
         mark = later col.MARK (omega arith) (omega arith) (λ k. refl) i h;
         active = later col.ACTIVE (omega arith) (omega arith) (λ k. refl) i h ∙ sym (activity-none tree i);

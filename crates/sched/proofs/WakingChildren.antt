@@ -3,14 +3,14 @@
 use Prim.Native.Nat.{ℕ, zero, suc, _+_, _-_, _*_, _/_, _%_, _^_, _≤_, _<_, min, max}
 use native.Mathlib.Omega.{arith}
 use mathlib.Core.Path.{_≡_, refl, sym, _∙_, ap, subst}
-use mathlib.Core.Bool.{Bool, true, false, cond, not, _&&_, _||_}
+use mathlib.Core.Bool.{true, false, cond, not, _&&_, _||_}
 use mathlib.Core.List.{List}
 use mathlib.Core.Logic.{_⊎_, inl, inr, ⊎-elim}
 use Rattle.curve.proofs.Laws.Order.{le-or-lt}
 use Rattle.curve.specs.Curves.{mostStart}
 use Rattle.curve.specs.declared.Piece.{Piece}
-use Rattle.curve.specs.Pieces.{lowerOf, choose}
-use lib.Dec.{leb}
+use Rattle.curve.specs.Pieces.{lowerOf}
+use Rattle.curve.proofs.Laws.Kept.{lower-either}
 use Rattle.tree.specs.declared.Tree.{Tree}
 use Rattle.tree.specs.Trees.{isChild}
 use Rattle.rules.specs.Over.{anyOf, largestOf, smallestOf}
@@ -164,9 +164,4 @@ module _ (m : List ℕ) (p i : ℕ) (s : Spread) (c : ℕ) (has : HasFamily m p)
 
 -- the lower of two pieces starts where one of them does
 pub lower-start : (share : ℕ) (old new : Piece) (most : ℕ) → old .start ≤ most → new .start ≤ most → lowerOf share old new .start ≤ most
-unfolding lowerOf
-lower-start share old new most l h = chosen (leb (65536 * (new .sent - old .sent)) (share * (new .start - old .start)))
-  where
-    chosen : (b : Bool) → choose b new old .start ≤ most
-    chosen true = h
-    chosen false = l
+lower-start share old new most l h = lower-either (λ p. p .start ≤ most) share old new l h

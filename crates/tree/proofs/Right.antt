@@ -5,26 +5,14 @@ use mathlib.Core.Bool.{true, false}
 use mathlib.Core.Path.{_≡_, refl, ap, _∙_}
 use native.Mathlib.Omega.{arith}
 use Rattle.curve.specs.Curves.{RightRate, RightCurve, Rising}
-use Rattle.curve.specs.declared.Curve.{Curve}
-use Rattle.curve.specs.declared.Curve.the-variants.{None, Straight, FrontLoaded, Delayed}
+use Rattle.curve.specs.declared.Curve.the-variants.{None}
+use Rattle.curve.proofs.Laws.Limits.{none-right, right-rising}
 use Rattle.tree.specs.Rules.{RightRoot, RightOther, RightTree}
 use Rattle.tree.specs.Trees.{classAt, parentOf, shareOf, curveOf, hasChild, isLeaf, depth}
 use Rattle.tree.specs.declared.Tree.{Tree}
 use Rattle.tree.proofs.Children.{ChildOf, child-has, childless-leaf, is-false}
 use Rattle.tree.proofs.Classes.{right-root, right-other}
 use Rattle.tree.proofs.Depths.{depth-up}
-
-none-right : RightCurve None
-unfolding RightCurve
-none-right = tt
-
--- a curve that is there, within the limits, rises
-pub right-rising : (S : Curve) → RightCurve S → (S ≡ None → ⊥) → Rising S
-unfolding RightCurve Rising
-right-rising None r some = absurd (some refl)
-right-rising (Straight m) r some = r
-right-rising (FrontLoaded m₁ d m₂) r some = r
-right-rising (Delayed d m) r some = r
 
 module _ (t : Tree) (right : RightTree t) where
   pub root : RightRoot (classAt t 0)

@@ -9,10 +9,11 @@ use native.Mathlib.Decide.{decLe, ℕ-discrete, map-dec}
 use native.Mathlib.Nat.{not-suc-le-zero, eq-or-lt-of-le, le-of-suc-le-suc}
 use native.Mathlib.Omega.{arith}
 use lib.ListN.{length, getD}
-use Rattle.curve.specs.Curves.{Within, RightRate, RightBend, RightCurve, inParts}
+use Rattle.curve.specs.Curves.{inParts}
 use Rattle.curve.specs.Fit.{CurvesFit, total, bendOf, slopes}
 use Rattle.curve.specs.declared.Curve.{Curve}
 use Rattle.curve.specs.declared.Curve.the-variants.{None, Straight, FrontLoaded, Delayed}
+use Rattle.curve.proofs.Laws.Limits.{both-decided, within-decided, rate-decided, right-decided}
 use Rattle.curve.proofs.Laws.Fit.{bends-enough, slopes-needed, fit-at, every-bend}
 use Rattle.tree.specs.Numbers.{numberOf}
 use Rattle.tree.specs.Rules.{RightClass, RightBody, RightDepth, RightPlace, EveryClass, LowestFault, broken, kept, OfTree, OfClasses, Checked, Judged}
@@ -25,45 +26,20 @@ use Rattle.tree.specs.declared.Verdict.{Verdict}
 use Rattle.tree.specs.declared.Verdict.the-variants.{Right, Refused}
 
 -- ---- what can be tested
-both-dec : {A B : Type 0} → Dec A → Dec B → Dec (A × B)
-both-dec (yes a) (yes b) = yes (a, b)
-both-dec (yes a) (no b) = no (λ p. b (p .1))
-both-dec (no a) (yes b) = no (λ p. a (p .0))
-both-dec (no a) (no b) = no (λ p. a (p .0))
-
-within-dec : (low high x : ℕ) → Dec (Within low high x)
-within-dec low high x = map-dec (λ p. record { above = p .0; below = p .1 }) (λ w. (w .above, w .below)) (both-dec (decLe low x) (decLe x high))
-
 none-dec : (S : Curve) → Dec (S ≡ None)
 none-dec None = yes refl
 none-dec (Straight m) = no (λ e. let z : _≡_ {A = ℕ} 0 1 = cc in omega arith)
 none-dec (FrontLoaded m₁ d m₂) = no (λ e. let z : _≡_ {A = ℕ} 0 1 = cc in omega arith)
 none-dec (Delayed d m) = no (λ e. let z : _≡_ {A = ℕ} 0 1 = cc in omega arith)
 
-rate-dec : (m : ℕ) → Dec (RightRate m)
-rate-dec m = within-dec 1 65536 m
-
-bend-dec : (d : ℕ) → Dec (RightBend d)
-bend-dec d = within-dec 1 1048576 d
-
-curve-dec : (S : Curve) → Dec (RightCurve S)
-unfolding RightCurve
-curve-dec None = yes tt
-curve-dec (Straight m) = rate-dec m
-curve-dec (FrontLoaded m₁ d m₂) =
-    map-dec (λ p. record { first = p .0 .0; bend = p .0 .1; last = p .1 .0; falls = p .1 .1 }) (λ r. ((r .first, r .bend), (r .last, r .falls)))
-    (both-dec (both-dec (rate-dec m₁) (bend-dec d)) (both-dec (rate-dec m₂) (decLe (suc m₂) m₁)))
-curve-dec (Delayed d m) =
-    map-dec (λ p. record { bend = p .0; rate = p .1 }) (λ r. (r .bend, r .rate)) (both-dec (bend-dec d) (rate-dec m))
-
 class-dec : (c : Class) (i : ℕ) → Dec (RightClass c i)
 unfolding RightClass
 class-dec c zero =
     map-dec (λ p. record { parent = p .0; share = p .1 .0; curve = p .1 .1 }) (λ r. (r .parent, (r .share, r .curve)))
-    (both-dec (ℕ-discrete (c .parent) 0) (both-dec (ℕ-discrete (c .share) 65536) (none-dec (c .curve))))
+    (both-decided (ℕ-discrete (c .parent) 0) (both-decided (ℕ-discrete (c .share) 65536) (none-dec (c .curve))))
 class-dec c (suc i) =
     map-dec (λ p. record { parent = p .0; share = p .1 .0; curve = p .1 .1 }) (λ r. (r .parent, (r .share, r .curve)))
-    (both-dec (decLe (suc (c .parent)) (suc i)) (both-dec (rate-dec (c .share)) (curve-dec (c .curve))))
+    (both-decided (decLe (suc (c .parent)) (suc i)) (both-decided (rate-decided (c .share)) (right-decided (c .curve))))
 
 place-dec : (b : Bool) (S : Curve) → Dec (b ≡ true → S ≡ None)
 place-dec true S = map-dec (λ e has. e) (λ good. good refl) (none-dec S)
@@ -108,7 +84,7 @@ of-classes-some why n Good test next =
 pub check-some : (t : Tree) → (v : Verdict) × Judged t v
 unfolding Checked
 check-some t =
-    of-tree-some WrongCount (within-dec 2 64 (t .count))
+    of-tree-some WrongCount (within-decided 2 64 (t .count))
     (λ count. of-classes-some WrongBody (t .count) (RightBody t) (λ i. class-dec (classAt t i) i)
     (λ bodies. of-classes-some TooDeep (t .count) (RightDepth t) (λ i. decLe (depth t i) 8)
     (λ depths. of-classes-some CurveAboveChildren (t .count) (RightPlace t) (λ i. place-dec (hasChild t i) (curveOf t i))

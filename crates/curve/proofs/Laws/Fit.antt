@@ -180,7 +180,11 @@ slopes-needed Ss fit = ⊎-elim (λ h. h) (λ h. absurd (late h)) (le-or-lt (slo
         let x = 65536 * d + 1 in
         omega (arith, fit (d + x), lasts-grow Ss d x (le-refl d), mul-le-mul-right {m = 65537} {n = slopes Ss} x h)
 
--- curves that fit, at one tick
+-- curves that fit, at each tick and at one
+pub fit-each : (Ss : List Curve) → ((t : ℕ) → total Ss t ≤ inParts t) → CurvesFit Ss
+unfolding CurvesFit
+fit-each Ss each = each
+
 pub fit-at : (Ss : List Curve) → CurvesFit Ss → (t : ℕ) → total Ss t ≤ inParts t
 unfolding CurvesFit
 fit-at Ss fit t = fit t

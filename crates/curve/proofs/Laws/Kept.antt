@@ -76,7 +76,7 @@ lower-under m old new s c = go (le-or-lt (inParts (new .sent - old .sent)) (m * 
     go (inr l) = rw (lt-leb (inParts (new .sent - old .sent)) (m * (new .start - old .start)) l) (omega arith, omega (arith, rise))
 
 -- it is one of the two
-lower-either : (P : Piece → Type 0) (m : ℕ) (old new : Piece) → P old → P new → P (lowerOf m old new)
+pub lower-either : (P : Piece → Type 0) (m : ℕ) (old new : Piece) → P old → P new → P (lowerOf m old new)
 unfolding lowerOf
 lower-either P m old new h k = go (leb (inParts (new .sent - old .sent)) (m * (new .start - old .start)))
   where
@@ -336,20 +336,40 @@ pub virtual-kept : (share : ℕ) → RightRate share → (p : Piece) (ps : List 
 virtual-kept share r p ps o {w} c =
     least-iff (λ u. straight-due share w u p ps (r .above) o c) (λ u h. kept-stands (Straight share) share u w p ps o (h .after) (h .every))
 
--- what is kept of a first piece, and after one piece more
-pub kept-first : (S : Curve) (p : Piece) (k : Kept) → k .steep ≡ p → k .flat ≡ p → k ≡ keptOf S (p ∷ [])
-unfolding keptOf lowest
-kept-first S p k e f = λ i. record { steep = e i; flat = f i }
-
-pub kept-more : (S : Curve) (p q : Piece) (qs : List Piece) → keptWith S (keptOf S (q ∷ qs)) p ≡ keptOf S (p ∷ q ∷ qs)
-unfolding keptOf keptWith lowest
-kept-more S p q qs = refl
+-- the lowest piece of none, as a state has it before the first; and one piece more
+pub lowest-none : (m : ℕ) → lowest m [] ≡ record { start = 0; sent = 0 }
+unfolding lowest
+lowest-none m = refl
 
 pub lowest-more : (m : ℕ) (p q : Piece) (qs : List Piece) → lowerOf m (lowest m (q ∷ qs)) p ≡ lowest m (p ∷ q ∷ qs)
 unfolding lowest
 lowest-more m p q qs = refl
 
--- from a piece of zeros, as a state has it before the first, the first piece is kept where nothing was sent before it
+-- from none the first piece is kept where nothing was sent before it
 pub lowest-start : (m : ℕ) (p : Piece) → p .sent ≡ 0 → lowerOf m (lowest m []) p ≡ lowest m (p ∷ [])
 unfolding lowest lowerOf
 lowest-start m p e = rw (le-leb (inParts (p .sent - 0)) (m * (p .start - 0)) (omega (arith, e))) refl
+
+-- the lowest piece starts no later than the latest
+pub lowest-latest : (m : ℕ) (ps : List Piece) → Orderly ps → lowest m ps .start ≤ latest ps
+unfolding lowest
+lowest-latest m [] o = omega arith
+lowest-latest m (p ∷ ps) o = lowest-one (λ q. (q .start ≤ p .start) × (q .sent ≤ p .sent)) m p ps (orderly-first p ps o) .0
+
+-- the same of what is kept
+module _ (S : Curve) where
+  pub kept-none : keptOf S [] ≡ record { steep = record { start = 0; sent = 0 }; flat = record { start = 0; sent = 0 } }
+  unfolding keptOf
+  kept-none = λ i. record { steep = lowest-none (firstSlope S) i; flat = lowest-none (lastSlope S) i }
+
+  pub kept-more : (p q : Piece) (qs : List Piece) → keptWith S (keptOf S (q ∷ qs)) p ≡ keptOf S (p ∷ q ∷ qs)
+  unfolding keptOf keptWith
+  kept-more p q qs = λ i. record { steep = lowest-more (firstSlope S) p q qs i; flat = lowest-more (lastSlope S) p q qs i }
+
+  pub kept-start : (p : Piece) → p .sent ≡ 0 → keptWith S (keptOf S []) p ≡ keptOf S (p ∷ [])
+  unfolding keptOf keptWith
+  kept-start p e = λ i. record { steep = lowest-start (firstSlope S) p e i; flat = lowest-start (lastSlope S) p e i }
+
+  pub kept-latest : (ps : List Piece) → Orderly ps → (keptOf S ps .steep .start ≤ latest ps) × (keptOf S ps .flat .start ≤ latest ps)
+  unfolding keptOf
+  kept-latest ps o = (lowest-latest (firstSlope S) ps o, lowest-latest (lastSlope S) ps o)

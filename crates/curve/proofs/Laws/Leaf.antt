@@ -11,14 +11,11 @@ use Rattle.curve.specs.Pieces.{standing, EveryPiece, latest, Due, Deadli
 use Rattle.curve.specs.declared.Curve.{Curve}
 use Rattle.curve.specs.declared.Piece.{Piece}
 use Rattle.curve.proofs.Laws.Order.{le-or-lt}
-use Rattle.curve.proofs.Laws.Amount.{amount-mono, amount-sum, rising-reaches}
-use Rattle.curve.proofs.Laws.Kept.{Every, every-map, every-piece, orderly-first}
+use Rattle.curve.proofs.Laws.Amount.{amount-mono, amount-sum}
+use Rattle.curve.proofs.Laws.Pieces.{standing-mono}
+use Rattle.curve.proofs.Laws.Kept.{Every, every-map, piece-every, orderly-first}
 
 -- a question on a list of pieces stays answered
-pub standing-mono : (S : Curve) (p : Piece) {t u : ℕ} → t ≤ u → standing S p t ≤ standing S p u
-unfolding standing
-standing-mono S p {t} {u} l = omega (arith, amount-mono S {t = t - p .start} {u = u - p .start} (omega arith))
-
 pub every-mono : (S : Curve) (ps : List Piece) {t u y z : ℕ} → t ≤ u → z ≤ y → EveryPiece S ps t y → EveryPiece S ps u z
 unfolding EveryPiece
 every-mono S [] l l′ h = tt
@@ -67,15 +64,29 @@ every-or-below S (p ∷ ps) t y = at (le-or-lt y (standing S p t)) (every-or-bel
 pub unripe-below : {S : Curve} {ps : List Piece} {c e t : ℕ} → latest ps ≤ t → Eligible S ps c e → t < e → Below S ps (t + lead S) (inParts c)
 unripe-below {S} {ps} {c} {e} {t} b h l = ⊎-elim (λ k. absurd (omega (arith, h .least t (record { after = b; every = k })))) (λ k. k) (every-or-below S ps (t + lead S) (inParts c))
 
+-- no piece of a list in order starts after the latest
+begun : (ps : List Piece) {t : ℕ} → Orderly ps → latest ps ≤ t → Every (λ p. p .start ≤ t) ps
+unfolding Every
+begun [] o l = tt
+begun (p ∷ ps) o l = every-map (λ q h. le-trans (h .0) l) (p ∷ ps) (orderly-first p ps o)
+
 -- for b no later than D and t: what a curve gives from b to D is at most what it gives to t, read as the eligible time reads it, and from t to D
 pub rise-split : (S : Curve) → Rising S → (b t D : ℕ) → b ≤ t → amount S (D - b) ≤ amount S (t - b + lead S) + amount S (D - t)
 rise-split S r b t D l = le-trans (amount-mono S (omega arith)) (amount-sum S r (t - b) (D - t))
 
--- an eligible time and a deadline are there, for a curve that rises: within 2^20 of the parts asked for, past the latest instant
-pub due-in-time : (S : Curve) → Rising S → (p : Piece) (ps : List Piece) (bytes : ℕ) → Orderly (p ∷ ps) → Due S (p ∷ ps) bytes (p .start + (inParts bytes + 1048576))
-due-in-time S r p ps bytes o =
-    record { after = omega arith; every = every-piece S (p ∷ ps) (p .start + (inParts bytes + 1048576)) (inParts bytes) (every-map up (p ∷ ps) (orderly-first p ps o)) }
-  where
-    up : (q : Piece) → (q .start ≤ p .start) × (q .sent ≤ p .sent) → inParts bytes ≤ standing S q (p .start + (inParts bytes + 1048576))
-    up q h = unfold standing in
-        omega (arith, rising-reaches S r (inParts bytes), amount-mono S {t = inParts bytes + 1048576} {u = p .start + (inParts bytes + 1048576) - q .start} (omega (arith, h .0)))
+-- Where a leaf is not eligible at t, some piece is low: what is due by D is at most what was sent and what the curve gives from t to D.
+pub unripe-due : (S : Curve) → Rising S → (ps : List Piece) (bytes e t D y : ℕ) → Orderly ps → latest ps ≤ t → Eligible S ps bytes e → t < e → Due S ps y D
+    → inParts y ≤ inParts bytes + amount S (D - t)
+unfolding standing
+unripe-due S rises ps bytes e t D y order last eligible unripe due =
+    let below = unripe-below last eligible unripe in
+    let p = below .piece in
+    let b : p .start ≤ t = every-in (λ p. p .start ≤ t) p ps (begun ps order last) (below .within) in
+    let q : t + lead S - p .start ≡ t - p .start + lead S = omega arith in
+    let low = below .low in
+    omega (
+      arith,
+      rw q at low,
+      rise-split S rises (p .start) t D b,
+      every-in (λ p. inParts y ≤ standing S p D) p ps (piece-every S ps D (inParts y) (due .every)) (below .within),
+    )

@@ -27,11 +27,23 @@ earliest-reached S h l = le-trans (h .holds) (amount-mono S l)
 pub earliest-most : (S : Curve) → Rising S → {y e : ℕ} → Least (Reaches S y) e → e ≤ y + 1048576
 earliest-most S r {y} h = h .least (y + 1048576) (rising-reaches S r y)
 
+-- a fair piece: "65,536·w then, plus share·(v − mark)"
+pub standing-straight : (m : ℕ) (p : Piece) (t : ℕ) → standing (Straight m) p t ≡ inParts (p .sent) + m * (t - p .start)
+unfolding standing amount
+standing-straight m p t = refl
+
+-- a piece never falls; and it has no more past its bytes than the curve from a tick at which it had not begun
+pub standing-mono : (S : Curve) (p : Piece) {t u : ℕ} → t ≤ u → standing S p t ≤ standing S p u
+unfolding standing
+standing-mono S p {t} {u} l = omega (arith, amount-mono S {t = t - p .start} {u = u - p .start} (omega arith))
+
+pub standing-most : (S : Curve) (p : Piece) (s t : ℕ) → s ≤ p .start → standing S p t ≤ inParts (p .sent) + amount S (t - s)
+unfolding standing
+standing-most S p s t l = omega (arith, amount-mono S {t = t - p .start} {u = t - s} (omega arith))
+
 -- where a piece stands at an amount it does so ever after
 pub stands-on : (S : Curve) (p : Piece) (bytes : ℕ) {t u : ℕ} → t ≤ u → Stands S p bytes t → Stands S p bytes u
-unfolding standing
-stands-on S p bytes {t} {u} l h =
-    record { begun = le-trans (h .begun) l; high = omega (arith, h .high, amount-mono S {t = t - p .start} {u = u - p .start} (omega arith)) }
+stands-on S p bytes l h = record { begun = le-trans (h .begun) l; high = le-trans (h .high) (standing-mono S p l) }
 
 -- the earliest tick at which a piece stands at an amount
 pub arrival-least : (S : Curve) (p : Piece) (bytes : ℕ) {e : ℕ} → Least (Reaches S (inParts (bytes - p .sent))) e → Least (Stands S p bytes) (p .start + e)

@@ -12,6 +12,15 @@ use Rattle.curve.specs.Fit.{sumOf}
 use Rattle.curve.specs.declared.Curve.{Curve}
 use Rattle.curve.specs.declared.Curve.the-variants.{None}
 
+-- the sum of no curves, and with one curve more
+pub sum-none : (f : Curve → ℕ) → sumOf f [] ≡ 0
+unfolding sumOf
+sum-none f = refl
+
+pub sum-more : (f : Curve → ℕ) (S : Curve) (Ss : List Curve) → sumOf f (S ∷ Ss) ≡ f S + sumOf f Ss
+unfolding sumOf
+sum-more f S Ss = refl
+
 -- each is at most its fellow, so the sums are
 pub sum-le : (f g : Curve → ℕ) → ((S : Curve) → f S ≤ g S) → (Ss : List Curve) → sumOf f Ss ≤ sumOf g Ss
 unfolding sumOf

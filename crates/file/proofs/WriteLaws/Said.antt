@@ -10,6 +10,7 @@ use lib.ListN.{length, getD, length-append}
 use Rattle.curve.specs.Curves.{RightCurve}
 use Rattle.curve.specs.declared.Curve.{Curve}
 use Rattle.curve.specs.declared.Curve.the-variants.{None, Straight, FrontLoaded, Delayed}
+use Rattle.curve.proofs.Laws.Limits.{straight-limits, front-limits, delayed-limits}
 use Rattle.tree.specs.declared.Class.{Class}
 use Rattle.tree.specs.declared.Tree.{Tree}
 use Rattle.tree.specs.Trees.{noClass, classAt, curveOf, SameTree}
@@ -24,11 +25,10 @@ use Rattle.file.proofs.WriteLaws.Spelled.{AllWords, Spells, words-appen
 
 -- the numbers of a right curve are words
 numbers-small : (S : Curve) → RightCurve S → AllWords (curveNumbers S)
-unfolding RightCurve
 numbers-small None r = tt
-numbers-small (Straight m) r = (omega arith, tt)
-numbers-small (FrontLoaded m₁ d m₂) r = (omega arith, (omega arith, (omega arith, tt)))
-numbers-small (Delayed d m) r = (omega arith, (omega arith, tt))
+numbers-small (Straight m) r = let limits = straight-limits m r in (omega arith, tt)
+numbers-small (FrontLoaded m₁ d m₂) r = let limits = front-limits m₁ d m₂ r in (omega arith, (omega arith, (omega arith, tt)))
+numbers-small (Delayed d m) r = let limits = delayed-limits d m r in (omega arith, (omega arith, tt))
 
 kind-small : (S : Curve) → curveKind S < 4
 kind-small None = lit< tt
@@ -38,7 +38,7 @@ kind-small (Delayed d m) = lit< tt
 
 -- the words of a right class's body
 body-small : (class : Class) (i : ℕ) → i < 64 → RightClass class i → AllWords (bodyWords class)
-unfolding RightClass bodyWords RightCurve
+unfolding RightClass bodyWords
 body-small class zero h r =
     (omega arith, (omega arith, (omega (arith, kind-small (class .curve)), subst (λ (S : Curve). AllWords (curveNumbers S)) (sym (r .curve)) tt)))
 body-small class (suc i) h r =

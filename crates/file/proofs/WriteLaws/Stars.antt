@@ -15,6 +15,7 @@ use Rattle.curve.specs.declared.Curve.{Curve}
 use Rattle.curve.specs.declared.Curve.the-variants.{None}
 use Rattle.curve.proofs.Laws.Amount.{amount-most}
 use Rattle.curve.proofs.Laws.Sum.{sum-le, sum-scaled}
+use Rattle.curve.proofs.Laws.Fit.{fit-each}
 use Rattle.tree.specs.declared.Class.{Class}
 use Rattle.tree.specs.declared.Tree.{Tree}
 use Rattle.tree.specs.Trees.{noClass, classAt, parentOf, isChild, childBelow, hasChild, stepsUp, depth, curvesOf}
@@ -35,10 +36,11 @@ steepest S = max (firstSlope S) (lastSlope S)
 
 -- curves fit whose steepest slopes fit together
 slopes-fit : (Ss : List Curve) → sumOf steepest Ss ≤ 65536 → CurvesFit Ss
-unfolding CurvesFit
-slopes-fit Ss h t =
+slopes-fit Ss h =
+    fit-each Ss
+    (λ t.
     le-trans (sum-le (λ S. amount S t) (λ S. steepest S * t) (λ S. amount-most (steepest S) S (omega arith) (omega arith) t) Ss)
-    (le-trans (le-of-eq (sum-scaled steepest t Ss)) (mul-le-mul-right t h))
+    (le-trans (le-of-eq (sum-scaled steepest t Ss)) (mul-le-mul-right t h)))
 
 and-false : (a b : Bool) → a && (b && false) ≡ false
 and-false true true = refl

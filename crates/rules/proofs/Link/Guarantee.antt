@@ -11,6 +11,7 @@ use lib.Dec.{eqb}
 use borrow.Author.Tests.{eqb-true}
 use Rattle.curve.specs.declared.Piece.{Piece}
 use Rattle.curve.proofs.Laws.Order.{le-or-lt}
+use Rattle.curve.proofs.Laws.Times.{deadline-exists}
 use Rattle.tree.specs.declared.Tree.{Tree}
 use Rattle.tree.specs.Trees.{curveOf}
 use Rattle.tree.specs.Rules.{RightTree}
@@ -25,7 +26,6 @@ use Rattle.rules.specs.Lawful.{Allowed, LawfulCalls, Grown, right, none}
 use Rattle.rules.proofs.Tests.{never}
 use Rattle.rules.proofs.Trees.{leaf-class, curve-rising}
 use Rattle.rules.proofs.Queues.{waits-leaf, waits-came-on}
-use Rattle.rules.proofs.Least.{deadline-exists}
 use Rattle.rules.specs.Link.{heaviest, free, Keeps, EveryCallKeeps, Link}
 use Rattle.rules.specs.Guarantee.{Moment, now, after, Head, LeftBy, TimeLeft, Sound, Guaranteed, FromFit, Guarantee, HeadsThere}
 use Rattle.rules.proofs.Link.Leaves.{head-some}

@@ -11,12 +11,14 @@ use native.Mathlib.Omega.{arith}
 use lib.Dec.{eqb}
 use borrow.Author.Tests.{eqb-true, eq-eqb}
 use Rattle.curve.specs.Curves.{amount, inParts, Rising}
-use Rattle.curve.specs.Pieces.{standing, EveryPiece, latest, Due, Deadline, Eligible}
+use Rattle.curve.specs.Pieces.{latest, Due, Deadline, Eligible}
 use Rattle.curve.specs.declared.Curve.{Curve}
 use Rattle.curve.specs.declared.Piece.{Piece}
 use Rattle.curve.proofs.Laws.Order.{le-or-lt}
-use Rattle.curve.proofs.Laws.Amount.{amount-mono}
-use Rattle.curve.proofs.Laws.Leaf.{every-mono, deadline-by, by-deadline}
+use Rattle.curve.proofs.Laws.Pieces.{standing-most}
+use Rattle.curve.proofs.Laws.Lists.{every-head, every-rest}
+use Rattle.curve.proofs.Laws.Leaf.{every-mono, deadline-by, by-deadline, unripe-due}
+use Rattle.curve.proofs.Laws.Times.{eligible-exists, deadline-exists}
 use Rattle.tree.specs.declared.Tree.{Tree}
 use Rattle.tree.specs.Trees.{curveOf, curveBelow}
 use Rattle.tree.proofs.Curves.{curve-below}
@@ -32,11 +34,11 @@ use Rattle.rules.specs.Lawful.{Timely, LawfulCalls}
 use Rattle.rules.proofs.Tests.{never, is-false}
 use Rattle.rules.proofs.Trees.{leaf-class}
 use Rattle.rules.proofs.Queues.{waits-leaf}
-use Rattle.rules.proofs.Least.{eligible-exists, deadline-exists}
+use Rattle.rules.proofs.Leaves.{pieces-in-order}
 use Rattle.rules.specs.Link.{heaviest, free, PassesNone}
 use Rattle.rules.specs.Guarantee.{Sound}
 use Rattle.rules.proofs.Link.Sums.{sumFrom, sum-room, fit-sum}
-use Rattle.rules.proofs.Link.Leaves.{head-some, head-most, latest-by, started-by, unripe-due}
+use Rattle.rules.proofs.Link.Leaves.{head-some, head-most, latest-by}
 
 -- what is due by D is paid for, where the count began at tick s with `a` bytes sent: it is at most those and what the curve gives from s to D
 abbrev Paid : Curve → List Piece → (D s a : ℕ) → Type 0
@@ -52,16 +54,17 @@ pub data Towards (S : Curve) (D s a : ℕ) (q : List ℕ) (ps : List Piece) (c :
 
 -- a class to which a packet may have come at tick `at`
 module _ (S : Curve) (D s a at n : ℕ) (ps : List Piece) (c : ℕ) (begun : s ≤ at) (old : latest ps ≤ at) where
+  abbrev fresh : Piece
+  fresh = record { start = at; sent = c }
+
   abbrev newer : List Piece
-  newer = record { start = at; sent = c } ∷ ps
+  newer = fresh ∷ ps
 
   first-paid : c ≡ a → Paid S newer D s a
-  unfolding EveryPiece standing
-  first-paid e y due = omega (arith, due .every .0, amount-mono S {t = D - at} {u = D - s} (omega arith))
+  first-paid e y due = omega (arith, every-head S fresh ps D (inParts y) (due .every), standing-most S fresh s D begun)
 
   more-paid : Paid S ps D s a → Paid S newer D s a
-  unfolding EveryPiece
-  more-paid h y due = h y (record { after = le-trans old (due .after); every = due .every .1 })
+  more-paid h y due = h y (record { after = le-trans old (due .after); every = every-rest S fresh ps D (inParts y) (due .every) })
 
   towards-came : (b : Bool) (q : List ℕ) → Towards S D s a q ps c
       → Towards S D s a (cond b (q ++ n ∷ []) q) (cond b (cond (isNonempty q) ps newer) ps) c
@@ -252,7 +255,7 @@ module _ (tree : Tree) (sound : Sound tree) (r D : ℕ) (cs : List Call) (lawful
             inr
             (λ y due.
             unripe-due (curveOf tree j) rising (pieces cs j) (sentRealTime cs j) (e .0) at D y
-            (latest-by tree cs lawful j forward) (started-by tree cs lawful j forward) (e .1) unripe due)
+            (pieces-in-order tree cs lawful j .order) (latest-by tree cs lawful j forward) (e .1) unripe due)
 
     -- a departure after which the count begins anew
     afresh : (k : ℕ) (rule : Rule) → free r cs ≤ at

@@ -1,13 +1,14 @@
 -- Sums over classes: what each is at most, their sum is at most; and the sum of the amounts of a tree's curves.
 -- Assumes nothing.
 use Prim.Native.Nat.{ℕ, zero, suc, _+_, _*_, _≤_, _<_}
-use mathlib.Core.Path.{_≡_, refl, ap, sym}
+use mathlib.Core.Path.{_≡_, ap, sym, _∙_}
 use mathlib.Core.Logic.{_⊎_, inl, inr}
 use native.Mathlib.Nat.{le-trans, le-of-eq}
 use native.Mathlib.Omega.{arith}
 use Rattle.curve.specs.Curves.{amount, inParts}
-use Rattle.curve.specs.Fit.{sumOf, total, CurvesFit}
+use Rattle.curve.specs.Fit.{total, CurvesFit}
 use Rattle.curve.proofs.Laws.Order.{le-or-lt}
+use Rattle.curve.proofs.Laws.Sum.{sum-none, sum-more}
 use Rattle.curve.proofs.Laws.Fit.{fit-at}
 use Rattle.tree.specs.declared.Tree.{Tree}
 use Rattle.tree.specs.Trees.{curveBelow, curvesFrom, curvesOf}
@@ -39,9 +40,10 @@ module _ (k : ℕ) (f g : ℕ → ℕ) (each : (j : ℕ) → k * f j ≤ g j) wh
 
 -- "the sum of all S(t)" of a tree
 total-sum : (tree : Tree) (t i n : ℕ) → total (curvesFrom tree i n) t ≡ sumFrom i n (λ j. amount (curveBelow tree j) t)
-unfolding sumFrom sumOf curvesFrom
-total-sum tree t i zero = refl
-total-sum tree t i (suc n) = ap (λ z. amount (curveBelow tree i) t + z) (total-sum tree t (suc i) n)
+unfolding sumFrom curvesFrom
+total-sum tree t i zero = sum-none (λ S. amount S t)
+total-sum tree t i (suc n) =
+    sum-more (λ S. amount S t) (curveBelow tree i) (curvesFrom tree (suc i) n) ∙ ap (λ z. amount (curveBelow tree i) t + z) (total-sum tree t (suc i) n)
 
 -- curves that fit: in t ticks the link sends what all of them owe
 pub fit-sum : (tree : Tree) → CurvesFit (curvesOf tree) → (t : ℕ) → sumFrom 0 64 (λ j. amount (curveBelow tree j) t) ≤ inParts t

@@ -15,7 +15,9 @@ use Rattle.curve.specs.Pieces.{standing, EveryPiece, latest, Due, Deadline, lea
 use Rattle.curve.specs.declared.Curve.{Curve}
 use Rattle.curve.specs.declared.Piece.{Piece}
 use Rattle.curve.proofs.Laws.Order.{le-or-lt}
+use Rattle.curve.proofs.Laws.Lists.{every-none, every-more, every-head, every-rest}
 use Rattle.curve.proofs.Laws.Leaf.{every-mono}
+use Rattle.curve.proofs.Laws.Times.{eligible-exists}
 use Rattle.tree.specs.declared.Tree.{Tree}
 use Rattle.tree.specs.Trees.{curveOf, isChild, isLeaf}
 use Rattle.rules.specs.declared.Rule.the-variants.{RealTime, Fair}
@@ -33,7 +35,6 @@ use Rattle.rules.proofs.Tests.{never, and-left, and-right, and-both, or
 use Rattle.rules.proofs.Over.{any-none}
 use Rattle.rules.proofs.Trees.{leaf-class, child-class, curve-rising}
 use Rattle.rules.proofs.Queues.{waits-leaf}
-use Rattle.rules.proofs.Least.{eligible-exists}
 use Rattle.rules.specs.Link.{free, AskedFree, EveryCallKeeps}
 
 -- both parts of a test
@@ -47,16 +48,17 @@ every S [] t y = true
 every S (p ∷ ps) t y = leb y (standing S p t) && every S ps t y
 
 every-is : (S : Curve) (ps : List Piece) (t y : ℕ) → every S ps t y ≡ true → EveryPiece S ps t y
-unfolding every EveryPiece
-every-is S [] t y e = tt
+unfolding every
+every-is S [] t y e = every-none S t y
 every-is S (p ∷ ps) t y e =
     let (a, b) = both (leb y (standing S p t)) (every S ps t y) e in
-    (leb-true y (standing S p t) a, every-is S ps t y b)
+    every-more S p ps t y (leb-true y (standing S p t) a) (every-is S ps t y b)
 
 is-every : (S : Curve) (ps : List Piece) (t y : ℕ) → EveryPiece S ps t y → every S ps t y ≡ true
-unfolding every EveryPiece
+unfolding every
 is-every S [] t y h = refl
-is-every S (p ∷ ps) t y h = and-both (leb y (standing S p t)) (every S ps t y) (le-leb y (standing S p t) (h .0)) (is-every S ps t y (h .1))
+is-every S (p ∷ ps) t y h =
+    and-both (leb y (standing S p t)) (every S ps t y) (le-leb y (standing S p t) (every-head S p ps t y h)) (is-every S ps t y (every-rest S p ps t y h))
 
 abbrev pub due : Curve → List Piece → ℕ → ℕ → Bool
 due S ps bytes t = leb (latest ps) t && every S ps t (inParts bytes)

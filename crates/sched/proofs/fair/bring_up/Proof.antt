@@ -1,6 +1,6 @@
 -- `sched::fair::bring_up` meets its contract: it stores the tick at which the kept fair piece reaches the bytes sent.
 -- Assumes nothing.
-use Rattle.curve.specs.Curves.{Rising}
+use Rattle.curve.proofs.Laws.Limits.{straight-rising}
 use borrow.Author.Needs.{needs}
 use Rattle.sched.proofs.fair.bring_up.Statement.{statement}
 use Rattle.sched.proofs.fair.bring_up.Tie as tie
@@ -22,9 +22,8 @@ fair-piece-requires : tie.Need-fair-piece-requires
 fair-piece-requires c κs = search needs
 
 arrival-requires : tie.Need-arrival-requires
-unfolding Rising
 arrival-requires c κs = (
-  rw (c .before .before .before .before .share-of .ensures) (c .before .before .before .before .before .before .pre .share),
+  rw (c .before .before .before .before .share-of .ensures) (straight-rising _ (c .before .before .before .before .before .before .pre .share)),
   search needs,
   rw (c .fair-piece .ensures) (c .before .before .before .before .before .before .pre .start),
 )

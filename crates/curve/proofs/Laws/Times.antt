@@ -1,5 +1,5 @@
 -- The least whole t at which something that can be decided holds: there is one, if it holds at all. So a leaf with a curve has an eligible time
--- and a deadline; and the eligible time is not after the deadline.
+-- and a deadline; and how late a deadline can be.
 -- Assumes nothing.
 use Prim.Native.Nat.{ℕ, zero, suc, _+_, _-_, _≤_, _<_, max}
 use native.Mathlib.Omega.{arith}
@@ -7,13 +7,14 @@ use native.Mathlib.Decide.{decLe}
 use mathlib.Core.Path.{_≡_}
 use mathlib.Core.Logic.{_⊎_, inl, inr, ⊎-elim}
 use mathlib.Core.List.{List, [], _∷_}
 use Rattle.curve.specs.Answers.{Least}
 use Rattle.curve.specs.Curves.{inParts, Rising}
 use Rattle.curve.specs.Pieces.{standing, EveryPiece, latest, Due, Ripe, Deadline, Eligible, lead, Follows, Orderly}
 use Rattle.curve.specs.declared.Curve.{Curve}
 use Rattle.curve.specs.declared.Piece.{Piece}
 use Rattle.curve.proofs.Laws.Order.{le-or-lt}
+use Rattle.curve.proofs.Laws.Limits.{both-decided}
 use Rattle.curve.proofs.Laws.Amount.{amount-mono, rising-reaches}
 
 module _ (P : ℕ → Type 0) (decides : (t : ℕ) → Dec (P t)) where
   tested : (n : ℕ) → ((u : ℕ) → u < n → P u → ⊥) → Dec (P n) → ((u : ℕ) × Least P u) ⊎ ((u : ℕ) → u < suc n → P u → ⊥)
@@ -33,11 +34,6 @@ module _ (P : ℕ → Type 0) (decides : (t : ℕ) → Dec (P t)) where
 
   pub least-exists : (t : ℕ) → P t → (u : ℕ) × Least P u
   least-exists t p = ⊎-elim (λ found. found) (λ before. absurd (before t (omega arith) p)) (below (suc t))
-
-pub both-decided : {A B : Type 0} → Dec A → Dec B → Dec (A × B)
-both-decided (yes a) (yes b) = yes (a, b)
-both-decided (yes a) (no b) = no (λ h. b (h .1))
-both-decided (no a) d = no (λ h. a (h .0))
 
 every-decided : (S : Curve) (ps : List Piece) (t y : ℕ) → Dec (EveryPiece S ps t y)
 unfolding EveryPiece
@@ -97,14 +93,3 @@ pub deadline-most : (S : Curve) → Rising S → (ps : List Piece) (bytes now : 
 deadline-most S r ps bytes now order after deadline =
     deadline .least (now + (inParts bytes + 1048576))
     (record { after = omega arith; every = late-enough S r ps (inParts bytes) _ (omega (arith, top-latest ps order)) })
-
--- where every piece is at least so much, later and for less they are too
-pub every-later : (S : Curve) (ps : List Piece) {t u y z : ℕ} → t ≤ u → z ≤ y → EveryPiece S ps t y → EveryPiece S ps u z
-unfolding EveryPiece standing
-every-later S [] l h e = tt
-every-later S (p ∷ ps) {t} {u} l h e = (omega (arith, e .0, amount-mono S {t = t - p .start} {u = u - p .start} (omega arith)), every-later S ps l h (e .1))
-
-pub eligible-first : (S : Curve) (ps : List Piece) (c n : ℕ) {e d : ℕ} → Eligible S ps c e → Deadline S ps (c + n) d → e ≤ d
-eligible-first S ps c n {e} {d} eligible deadline =
-    eligible .least d
-    (record { after = deadline .holds .after; every = every-later S ps (omega arith) (omega arith) (deadline .holds .every) })
