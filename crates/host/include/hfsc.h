@@ -54,7 +54,7 @@ enum {
     HFSC_RULE,     /* 1 by the real-time rule, 2 by the fair rule */
     HFSC_TIMED,    /* 1 where the leaf has a real-time curve: then the two times */
     HFSC_ELIGIBLE, /* the tick from which the real-time rule could take it */
-    HFSC_DEADLINE, /* the tick by which its curve has it sent */
+    HFSC_DEADLINE, /* the tick that its curve sets for it */
     HFSC_DEPARTURE /* how many numbers these are */
 };
 
