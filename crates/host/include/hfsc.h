@@ -1,0 +1,80 @@
+/* A fair service curve scheduler for hosts in C: numbers and lent arrays, no allocation, no input or output.
+ *
+ * Link target/staticlib/libhost.a, which `rt staticlib host` writes for x86-64. Of the C library it uses memcpy and memset.
+ *
+ * The state is two arrays, which the host keeps: `words` and `lengths` below. A start fills them, whatever they held. Every call after it takes
+ * them as the last call left them. That is the one premise, and C can't check it. So the host owes, and what is proved rests on it:
+ * - between calls nobody writes to the two arrays;
+ * - a copy of both is a state too, but the arrays of one state don't go with those of another;
+ * - no pointer is null, each array is as long as declared here, or as long as said beside it, and no two of a call's arrays overlap;
+ * - no other thread uses the arrays during a call.
+ *
+ * One tick is the time the link takes for one byte. A stamp is a 32-bit counter of ticks that comes round to zero; a start takes the first one.
+ * start, arrive and depart answer 0, or the number of the refusal:
+ *    1 file under 16 bytes                    7 a class's parent, share, kind or numbers  12 length outside 1 to 9,000
+ *    2 no mark at the file's start            8 depth over 8                              13 64 already wait in that leaf
+ *    3 version is not 1                       9 real-time curve on a class with children  14 2^31 ticks or more since the last kept stamp
+ *    4 count outside 2 to 64                 10 the real-time curves don't fit the link   15 clock would pass 2^40
+ *    5 total or contents                     11 no such class, or not a leaf              16 accepted bytes would pass 2^40
+ *    6 a body's place or length
+ * A refused start gives a state of no classes. A refused arrival or departure changes neither array.
+ */
+#ifndef HFSC_H
+#define HFSC_H
+
+#include <stddef.h>
+#include <stdint.h>
+
+#ifdef __cplusplus
+extern "C" {
+#endif
+
+enum { HFSC_WORDS = 1536, HFSC_LENGTHS = 4096 };
+
+/* Starts from a class-tree file of so many bytes. On a refusal `fault` is the class that it names, else 0. */
+uint32_t hfsc_start_file(uint64_t words[HFSC_WORDS], uint16_t lengths[HFSC_LENGTHS], const uint8_t *file, size_t bytes, uint32_t stamp,
+                         uint32_t *fault);
+
+/* Starts from a tree of so many words: the class count, then six words for each class, from class 0: parent, share, kind, and three numbers.
+ * Kind 0, no real-time curve: - - -; 1, straight: rate - -; 2, front-loaded: first rate, bend, last rate; 3, delayed: bend, rate -.
+ * The words marked - are not looked at, nor are words past the last class. A word that is not there counts as 0. */
+uint32_t hfsc_start_words(uint64_t words[HFSC_WORDS], uint16_t lengths[HFSC_LENGTHS], const uint32_t *tree, size_t count, uint32_t stamp,
+                          uint32_t *fault);
+
+/* A packet of this length in bytes arrives for a leaf. `number` is then its number within the leaf, from 0; 0 on a refusal. */
+uint32_t hfsc_arrive(uint64_t words[HFSC_WORDS], uint16_t lengths[HFSC_LENGTHS], uint32_t stamp, uint32_t leaf, uint32_t length,
+                     uint64_t *number);
+
+/* What hfsc_depart writes, by place. Where there is nothing to say stands 0. */
+enum {
+    HFSC_LEAVES,   /* 1 where a packet leaves; 0 where none waits, and on a refusal */
+    HFSC_LEAF,     /* its class */
+    HFSC_NUMBER,   /* its number within the leaf, from 0 */
+    HFSC_LENGTH,   /* its length in bytes */
+    HFSC_RULE,     /* 1 by the real-time rule, 2 by the fair rule */
+    HFSC_TIMED,    /* 1 where the leaf has a real-time curve: then the two times */
+    HFSC_ELIGIBLE, /* the tick from which the real-time rule could take it */
+    HFSC_DEADLINE, /* the tick that its curve sets for it */
+    HFSC_DEPARTURE /* how many numbers these are */
+};
+
+/* The link asks for a packet. */
+uint32_t hfsc_depart(uint64_t words[HFSC_WORDS], uint16_t lengths[HFSC_LENGTHS], uint32_t stamp, uint64_t out[HFSC_DEPARTURE]);
+
+/* The ticks since the start. */
+uint64_t hfsc_clock(const uint64_t words[HFSC_WORDS], const uint16_t lengths[HFSC_LENGTHS]);
+
+/* How many packets wait in a class: 0 for one with children, and for one that is not there. */
+uint64_t hfsc_waiting(const uint64_t words[HFSC_WORDS], const uint16_t lengths[HFSC_LENGTHS], uint32_t class_number);
+
+/* The virtual time of a class: 0 for the root, and for a class that is not there. */
+uint64_t hfsc_virtual_time(const uint64_t words[HFSC_WORDS], const uint16_t lengths[HFSC_LENGTHS], uint32_t class_number);
+
+/* 1, eligible time and deadline of a leaf's first packet; 0, 0, 0 where none waits or the class has no real-time curve. */
+void hfsc_head_times(const uint64_t words[HFSC_WORDS], const uint16_t lengths[HFSC_LENGTHS], uint32_t class_number, uint64_t out[3]);
+
+#ifdef __cplusplus
+}
+#endif
+
+#endif

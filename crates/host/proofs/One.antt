@@ -1,0 +1,60 @@
+-- Each exported function's promise allows one result: the number that it answers and all memory that it was lent.
+-- Assumes nothing.
+use Prim.Native.Nat.{ℕ}
+use mathlib.Core.Path.{_≡_, sym, ap, subst, _∙_}
+use mathlib.Core.List.{List}
+use Rattle.tree.specs.declared.Tree.{Tree}
+use Rattle.file.specs.declared.Reading.{Reading}
+use Rattle.file.proofs.ReadOne.{read-one}
+use Rattle.rules.specs.Calls.{History}
+use Rattle.rules.specs.Answers.{started}
+use Rattle.sched.specs.State.{Shows, Reached}
+use Rattle.sched.proofs.ShowsOne.{shows-one, start-one, arrive-one, depart-one}
+use Rattle.sched.proofs.Asking.{head-times-one}
+use Rattle.host.specs.Numbers.{verdictNumber, verdictClass, arrivalNumber, packetNumber, timesNumbers, departureNumber, departureNumbers}
+use Rattle.host.specs.Words.{treeSaid}
+use Rattle.host.specs.Promises.{StartTold, StartFileTold, ArriveTold, DepartTold, HeadTold}
+
+-- two values, each the number of one of two answers that are equal
+alike : {A B : Type 0} {x y : B} {a b : A} (f : A → B) → a ≡ b → x ≡ f a → y ≡ f b → x ≡ y
+alike f same p q = p ∙ (ap f same ∙ sym q)
+
+pub start-words-one : (words : List ℕ) (stamp said said′ fault fault′ : ℕ) (m m′ l l′ : List ℕ)
+    → StartTold (treeSaid words) stamp said fault m l → StartTold (treeSaid words) stamp said′ fault′ m′ l′
+    → (said ≡ said′) × (fault ≡ fault′) × (m ≡ m′) × (l ≡ l′)
+start-words-one words stamp said said′ fault fault′ m m′ l l′ p q =
+    let one = start-one (treeSaid words) stamp (p .answer) (q .answer) m m′ l l′ (p .right) (q .right) in
+    (alike verdictNumber (one .0) (p .number) (q .number), alike verdictClass (one .0) (p .class) (q .class), one .1, one .2)
+
+pub start-file-one : (file : List ℕ) (stamp said said′ fault fault′ : ℕ) (m m′ l l′ : List ℕ)
+    → StartFileTold file stamp said fault m l → StartFileTold file stamp said′ fault′ m′ l′
+    → (said ≡ said′) × (fault ≡ fault′) × (m ≡ m′) × (l ≡ l′)
+start-file-one file stamp said said′ fault fault′ m m′ l l′ p q =
+    let r : Reading = record { verdict = p .answer; tree = p .tree } in
+    let s : Reading = record { verdict = q .answer; tree = q .tree } in
+    let one : r ≡ s = read-one file r s (p .reads) (q .reads) in
+    let begun : started (p .tree) stamp (p .answer) ≡ started (q .tree) stamp (q .answer) = ap (λ (x : Reading). started (x .tree) stamp (x .verdict)) one in
+    let both = shows-one (subst (λ (h : History). Shows m l h) begun (p .shows)) (q .shows) in (
+      alike (λ (x : Reading). verdictNumber (x .verdict)) one (p .number) (q .number),
+      alike (λ (x : Reading). verdictClass (x .verdict)) one (p .class) (q .class),
+      both .0,
+      both .1,
+    )
+
+module _ (m₀ l₀ : List ℕ) (reached : Reached m₀ l₀) where
+  pub arrive-told-one : (stamp class bytes said said′ packet packet′ : ℕ) (m m′ l l′ : List ℕ)
+      → ArriveTold m₀ l₀ stamp class bytes said packet m l → ArriveTold m₀ l₀ stamp class bytes said′ packet′ m′ l′
+      → (said ≡ said′) × (packet ≡ packet′) × (m ≡ m′) × (l ≡ l′)
+  arrive-told-one stamp class bytes said said′ packet packet′ m m′ l l′ p q =
+      let one = arrive-one m₀ l₀ reached stamp class bytes (p .answer) (q .answer) m m′ l l′ (p .right) (q .right) in
+      (alike arrivalNumber (one .0) (p .number) (q .number), alike packetNumber (one .0) (p .written) (q .written), one .1, one .2)
+
+  pub depart-told-one : (stamp said said′ : ℕ) (out out′ m m′ l l′ : List ℕ)
+      → DepartTold m₀ l₀ stamp said out m l → DepartTold m₀ l₀ stamp said′ out′ m′ l′
+      → (said ≡ said′) × (out ≡ out′) × (m ≡ m′) × (l ≡ l′)
+  depart-told-one stamp said said′ out out′ m m′ l l′ p q =
+      let one = depart-one m₀ l₀ reached stamp (p .answer) (q .answer) m m′ l l′ (p .right) (q .right) in
+      (alike departureNumber (one .0) (p .number) (q .number), alike departureNumbers (one .0) (p .written) (q .written), one .1, one .2)
+
+  pub head-told-one : (class : ℕ) (out out′ : List ℕ) → HeadTold m₀ l₀ class out → HeadTold m₀ l₀ class out′ → out ≡ out′
+  head-told-one class out out′ p q = alike timesNumbers (head-times-one reached class (p .times) (q .times) (p .right) (q .right)) (p .written) (q .written)
