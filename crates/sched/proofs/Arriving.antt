@@ -36,7 +36,7 @@ use Rattle.sched.specs.Columns.{HEADER, CLOCK, STAMP, BYTES, COUNT, CHIL
 use Rattle.sched.specs.State.{hasTimes, ShowsLeaf, ShowsSlots, Shows, Reached}
 use Rattle.sched.specs.Promises.{ArriveRight}
 use Rattle.sched.specs.Steps.{keptIn, pickMoment, tickOf}
-use Rattle.sched.specs.StepsArriving.{leafChecks, BeforeBegin, AfterBegin, ShowsButClock, AcceptRight}
+use Rattle.sched.specs.StepsArriving.{leafChecks, BeforeBegin, AfterBegin, ShowsButClock, ReceiveAccepted, ReceiveRight, isAccepted}
 use Rattle.sched.proofs.Cells.{length-with, at-with-same, at-with-class, at-with-column}
 use Rattle.sched.proofs.Chain.{childless-leaf, some-child-interior}
 use Rattle.sched.proofs.Choosing.{count-most}
@@ -361,11 +361,12 @@ promised before answer = (answer, reached-after (before .lawful) (answer (before
 
 module _ {m l : List ℕ} {h : History} (law : Lawful h) (s : Shows m l h) (stamp j n : ℕ) {r : Moment}
     (ticked : r ≡ tickOf (at m CLOCK HEADER) (at m STAMP HEADER) stamp) where
-  refused-right : (why : Refusal) → outcome (arrivalChecks h stamp j n) ≡ refused (numberOf why) → ArriveRight h stamp j n (Arrival.Refused why) m l
-  refused-right why e = record { next = h; arrives = record { checked = e; after = refl }; shows = s }
+  refused-right : {m′ l′ : List ℕ} (why : Refusal) → outcome (arrivalChecks h stamp j n) ≡ refused (numberOf why) → Shows m′ l′ h
+      → ArriveRight h stamp j n (Arrival.Refused why) m′ l′
+  refused-right why e shows = record { next = h; arrives = record { checked = e; after = refl }; shows = shows }
 
   pub tick-refuses : (why : Refusal) → r ≡ Refused why → ArriveRight h stamp j n (Arrival.Refused why) m l
-  tick-refuses why e = refused-right why (tick-refused h stamp why (leafChecks h j n) (sym e ∙ ticked ∙ tick-shown law s stamp))
+  tick-refuses why e = refused-right why (tick-refused h stamp why (leafChecks h j n) (sym e ∙ ticked ∙ tick-shown law s stamp)) s
 
   module _ (t : ℕ) (kept : r ≡ At t) where
     now-is : (t ≡ nextClock h stamp) × ((leb tooFar (ticks h stamp) ≡ false) × (ltb end (nextClock h stamp) ≡ false))
@@ -374,24 +375,31 @@ module _ {m l : List ℕ} {h : History} (law : Lawful h) (s : Shows m l h) (stam
     same-outcome : outcome (arrivalChecks h stamp j n) ≡ outcome (leafChecks h j n)
     same-outcome = checks-after h stamp (leafChecks h j n) (now-is .1 .0) (now-is .1 .1)
 
-    pub leaf-refuses : (why : Refusal) → outcome (leafChecks h j n) ≡ refused (numberOf why) → ArriveRight h stamp j n (Arrival.Refused why) m l
-    leaf-refuses why e = refused-right why (same-outcome ∙ e)
+    pub now-allowed : outcome (leafChecks h j n) ≡ passed → Allowed (h .tree) (h .calls) (came t j n)
+    now-allowed opened =
+        subst (λ (x : ℕ). Allowed (h .tree) (h .calls) (came x j n)) (sym (now-is .0)) (passed-allowed h law stamp j n (same-outcome ∙ opened))
 
-    module _ (opened : outcome (leafChecks h j n) ≡ passed) where
-      pub now-allowed : Allowed (h .tree) (h .calls) (came t j n)
-      now-allowed =
-          subst (λ (x : ℕ). Allowed (h .tree) (h .calls) (came x j n)) (sym (now-is .0)) (passed-allowed h law stamp j n (same-outcome ∙ opened))
-
-      pub accepted-right : {m′ m″ l′ : List ℕ} {number : ℕ} → stamp < wheel → AcceptRight h t j n number m′ l′
+    module _ (m′ l′ : List ℕ) where
+      accepted-right : {m″ : List ℕ} {number : ℕ} → stamp < wheel → ReceiveAccepted h t j n number m′ l′
           → m″ ≡ with (with m′ CLOCK HEADER t) STAMP HEADER stamp → ArriveRight h stamp j n (Accepted number) m″ l′
       unfolding clock
-      accepted-right {m′} {m″} {l′} small a moved =
+      accepted-right small a moved =
           let last : lastStamp (h .first) (came t j n ∷ h .calls) ≡ stamp = stamp-kept h stamp (came t j n) small (now-is .0) in
           record {
             next = withCall h (came (nextClock h stamp) j n);
-            arrives = record { checked = same-outcome ∙ opened; numbered = a .numbered; after = refl };
+            arrives = record { checked = same-outcome ∙ a .checked; numbered = a .right .numbered; after = refl };
             shows =
                 subst (λ (x : List ℕ). Shows x l′ (withCall h (came (nextClock h stamp) j n))) (sym moved)
                 (subst (λ (x : ℕ). Shows (with (with m′ CLOCK HEADER t) STAMP HEADER stamp) l′ (withCall h (came x j n))) (now-is .0)
-                (clock-moved t stamp (count-most (h .tree) (law .grown)) (a .shows) refl (sym last)));
+                (clock-moved t stamp (count-most (h .tree) (law .grown)) (a .right .shows) refl (sym last)));
           }
+
+      -- the clock is moved where the arrival was accepted, and left where it was refused
+      pub moved-right : {m″ : List ℕ} (a : Arrival) → isAccepted a ≡ true → ReceiveRight h t j n a m′ l′ → stamp < wheel
+          → m″ ≡ with (with m′ CLOCK HEADER t) STAMP HEADER stamp → ArriveRight h stamp j n a m″ l′
+      moved-right (Accepted number) e right small moved = accepted-right small right moved
+      moved-right (Arrival.Refused why) e right small moved = absurd (mathlib.Core.Bool.false≢true e)
+
+      pub unmoved-right : (a : Arrival) → isAccepted a ≡ false → ReceiveRight h t j n a m′ l′ → ArriveRight h stamp j n a m′ l′
+      unmoved-right (Accepted number) e right = absurd (mathlib.Core.Bool.false≢true (sym e))
+      unmoved-right (Arrival.Refused why) e right = refused-right why (same-outcome ∙ right .checked) (right .shows)

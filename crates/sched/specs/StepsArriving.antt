@@ -2,13 +2,16 @@
 -- Assumes nothing.
 use Prim.Native.Nat.{ℕ, _+_, _≤_, _<_}
 use mathlib.Core.Path.{_≡_}
-use mathlib.Core.Bool.{true, false, not, _&&_}
+use mathlib.Core.Bool.{Bool, true, false, not, _&&_}
 use mathlib.Core.List.{List, [], _∷_}
 use lib.ListN.{length}
 use lib.Dec.{leb, ltb}
 use Rattle.tree.specs.declared.Tree.{Tree}
+use Rattle.tree.specs.declared.Refusal.{Refusal}
 use Rattle.tree.specs.Numbers.{numberOf}
 use Rattle.tree.specs.Trees.{curveOf, isLeaf}
+use Rattle.rules.specs.declared.Arrival.{Arrival}
+use Rattle.rules.specs.declared.Arrival.the-variants.{Accepted}
 use Rattle.rules.specs.Limits.{longest, room, end, weigh}
 use Rattle.rules.specs.Calls.{Call, came, History}
 use Rattle.rules.specs.Queues.{queue, waits, nextNumber, accepted}
@@ -18,10 +21,11 @@ use Rattle.rules.specs.Lawful.{Allowed, Lawful}
 use Rattle.rules.specs.Answers.{Check, outcome, passed, refused, withCall}
 use Rattle.sched.specs.declared.Admission.{Admission}
 use Rattle.sched.specs.declared.Admission.the-variants.{Open}
+use Rattle.sched.specs.declared.ticks.Moment.the-variants.{At}
 use Rattle.sched.specs.Table.{at}
-use Rattle.sched.specs.Columns.{HEADER, BYTES, COUNT, BYTES-RT, ELIGIBLE, DEADLINE, NEVER}
+use Rattle.sched.specs.Columns.{HEADER, CLOCK, STAMP, BYTES, COUNT, BYTES-RT, ELIGIBLE, DEADLINE, NEVER}
 use Rattle.sched.specs.State.{keptFor, ShowsTree, ShowsLeaf, ShowsFair, ShowsSlots, Shows, Reached}
-use Rattle.sched.specs.Steps.{keptIn, Planted}
+use Rattle.sched.specs.Steps.{keptIn, Planted, tickOf}
 
 -- a table of a state, whatever lengths stand beside it
 pub record Shown (m : List ℕ) : Type 0 where
@@ -109,3 +113,26 @@ pub record Acceptable (m l : List ℕ) (t j n : ℕ) : Type 0 where
 pub record AcceptRight (h : History) (t j n number : ℕ) (m l : List ℕ) : Type 0 where
   pub numbered : number ≡ nextNumber (h .calls) j
   pub shows : ShowsButClock m l (withCall h (came t j n))
+
+-- an arrival at a tick that some stamp gives the clock
+pub record Receivable (m l : List ℕ) (t : ℕ) : Type 0 where
+  pub reached : Reached m l
+  pub stamp : ℕ
+  pub ticked : At t ≡ tickOf (at m CLOCK HEADER) (at m STAMP HEADER) stamp
+
+pub record ReceiveAccepted (h : History) (t j n number : ℕ) (m l : List ℕ) : Type 0 where
+  pub checked : outcome (leafChecks h j n) ≡ passed
+  pub right : AcceptRight h t j n number m l
+
+-- "A refusal there gives back the same state"
+pub record ReceiveRefused (h : History) (j n : ℕ) (why : Refusal) (m l : List ℕ) : Type 0 where
+  pub checked : outcome (leafChecks h j n) ≡ refused (numberOf why)
+  pub shows : Shows m l h
+
+abbrev pub ReceiveRight : History → (t j n : ℕ) → Arrival → (m l : List ℕ) → Type 0
+ReceiveRight h t j n (Accepted number) m l = ReceiveAccepted h t j n number m l
+ReceiveRight h t j n (Arrival.Refused why) m l = ReceiveRefused h j n why m l
+
+abbrev pub isAccepted : Arrival → Bool
+isAccepted (Accepted number) = true
+isAccepted (Arrival.Refused why) = false

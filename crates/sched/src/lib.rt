@@ -48,7 +48,7 @@ ghost use Rattle.sched.specs.Table.{at};
 ghost use Rattle.sched.specs.Columns as col;
 ghost use Rattle.sched.specs.State.{Shows, Reached};
 ghost use Rattle.sched.specs.Promises.{StartRight, ArriveRight, DepartRight};
-ghost use Rattle.sched.specs.StepsArriving.{Shown, AdmissionRight, Beginnable, BeforeBegin, AfterTiming, AfterBegin, Acceptable, AcceptRight};
+ghost use Rattle.sched.specs.StepsArriving.{Shown, AdmissionRight, Beginnable, BeforeBegin, AfterTiming, AfterBegin, Acceptable, AcceptRight, Receivable, ReceiveRight, isAccepted};
 ghost use Rattle.sched.specs.StepsDeparting.{timesIn, counted, Timable, NextTimed, BeforeSettle, Settleable, AfterSettle, Takable, TakeRight};
 
 mod choice;
@@ -168,6 +168,35 @@ fn accept(
     number
 }
 
+// An arrival at a tick that the clock may have: refused, with every cell as it was, or accepted.
+fn receive(
+    words: &mut [u64; 1536],
+    lengths: &mut [u16; 4096],
+    tick: u64,
+    class: u32,
+    length: u32,
+) -> Arrival
+    requires { ⌜ Receivable (now words) (now lengths) tick ⌝ }
+    ensures { λ r. ⌜ ((h : History) → Lawful h → Shows (now (words .entry)) (now (lengths .entry)) h → ReceiveRight h tick class length r (now (words .exit)) (now (lengths .exit))) ⌝ }
+{
+    match admit(words, class, length) {
+        Admission::Refused { why } => Arrival::Refused { why },
+        Admission::Open => {
+            let number = accept(words, lengths, tick, class as usize, length);
+            Arrival::Accepted { number }
+        }
+    }
+}
+
+fn is_accepted(answer: Arrival) -> bool
+    ensures { λ r. ⌜ r ≡ isAccepted answer ⌝ }
+{
+    match answer {
+        Arrival::Accepted { number: _ } => true,
+        Arrival::Refused { why: _ } => false,
+    }
+}
+
 // A packet of this length arrives for this class.
 pub fn arrive(
     words: &mut [u64; 1536],
@@ -182,14 +211,13 @@ pub fn arrive(
 {
     match tick(words, stamp) {
         Moment::Refused { why } => Arrival::Refused { why },
-        Moment::At(now) => match admit(words, class, length) {
-            Admission::Refused { why } => Arrival::Refused { why },
-            Admission::Open => {
-                let number = accept(words, lengths, now, class as usize, length);
+        Moment::At(now) => {
+            let answer = receive(words, lengths, now, class, length);
+            if is_accepted(answer) {
                 move_clock(words, now, stamp);
-                Arrival::Accepted { number }
             }
-        },
+            answer
+        }
     }
 }
 

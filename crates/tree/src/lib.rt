@@ -6,7 +6,7 @@ ghost use Rattle.tree.specs.Rules.{Judged};
 ghost use Rattle.tree.specs.Trees.{classAt, emptyTree, noClass};
 use curve::Curve;
 
-mod rules;
+mod checks;
 
 // A class: the number of its parent, its share, and its real-time curve.
 pub struct Class {
@@ -122,16 +122,16 @@ pub fn check(tree: Tree) -> Verdict
     if 64 < count {
         return refused(Refusal::WrongCount, 0);
     }
-    if let Fault::At(class) = rules::wrong_body(tree) {
+    if let Fault::At(class) = checks::wrong_body(tree) {
         return refused(Refusal::WrongBody, class);
     }
-    if let Fault::At(class) = rules::too_deep(tree) {
+    if let Fault::At(class) = checks::too_deep(tree) {
         return refused(Refusal::TooDeep, class);
     }
-    if let Fault::At(class) = rules::curve_above_children(tree) {
+    if let Fault::At(class) = checks::curve_above_children(tree) {
         return refused(Refusal::CurveAboveChildren, class);
     }
-    if curve::fit::fits(rules::curves_of(tree)) {
+    if curve::fit::fits(checks::curves_of(tree)) {
         Verdict::Right
     } else {
         refused(Refusal::CurvesDontFit, 0)

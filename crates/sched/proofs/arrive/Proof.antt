@@ -1,13 +1,7 @@
--- `sched::arrive` meets its contract: 14 and 15, then 11, 12, 13 and 16, and an accepted packet; by the laws of an arrival.
--- Assumes nothing.
-use mathlib.Core.Path.{_≡_, subst}
+-- `sched::arrive` meets its contract: 14 and 15, then what the leaf answers; the clock moves exactly where the packet was accepted. Assumes nothing.
+use mathlib.Core.Path.{_≡_, sym, _∙_}
 use borrow.Author.Needs.{needs}
-use Rattle.rules.specs.Calls.{History}
-use Rattle.rules.specs.Lawful.{Lawful}
-use Rattle.rules.specs.Answers.{passed, outcome}
-use Rattle.sched.specs.State.{Shows}
-use Rattle.sched.specs.StepsArriving.{AdmissionRight, leafChecks}
-use Rattle.sched.proofs.Arriving.{clock-shown, stamp-shown, promised, tick-refuses, leaf-refuses, now-allowed, accepted-right}
+use Rattle.sched.proofs.Arriving.{clock-shown, stamp-shown, promised, tick-refuses, moved-right, unmoved-right}
 use Rattle.sched.proofs.arrive.Statement.{statement}
 use Rattle.sched.proofs.arrive.Tie as tie
 
@@ -30,70 +24,40 @@ returns c =
 enum-known-now : tie.Need-enum-known-now
 enum-known-now c = search needs
 
-admit-requires : tie.Need-admit-requires
-admit-requires c κs =
-    let start = c .before .before .before .before .before .before in
-    record { lengths = start .args .lengths .now; reached = start .pre }
-
-enum-known-why-2 : tie.Need-enum-known-why-2
-enum-known-why-2 c = search needs
-
-returns-2 : tie.Need-returns-2
-returns-2 c =
-    let told = c .before in
-    let asked = told .before .before in
-    let known = asked .before .before .before in
+receive-requires : tie.Need-receive-requires
+receive-requires c κs =
+    let known = c .before .before .before in
     let ticked = known .before .before in
     let start = ticked .before .before in
-    promised (start .pre) (λ h law s.
-    leaf-refuses law s (start .args .stamp) (start .args .class) (start .args .length) (ticked .tick .ensures) _ (known .now .given .1) _
-    (subst (AdmissionRight h (start .args .class) (start .args .length)) (told .why2 .given .1) (asked .admit .ensures h (start .args .lengths .now) law s)))
+    record { reached = start .pre; stamp = start .args .stamp; ticked = sym (known .now .given .1) ∙ ticked .tick .ensures }
 
-enum-told : tie.Need-enum-told
-enum-told c = search needs
-
--- every check is passed
-abbrev start-of : tie.After-enum-told → tie.Start
-start-of c = c .before .before .before .before .before .before .before .before .before
-
-opened : (c : tie.After-enum-told) (h : History) → Lawful h → Shows (start-of c .args .words .now) (start-of c .args .lengths .now) h
-    → outcome (leafChecks h (start-of c .args .class) (start-of c .args .length)) ≡ passed
-opened c h law s =
-    subst (AdmissionRight h (start-of c .args .class) (start-of c .args .length)) (c .enum-told .given .1)
-    (c .before .before .admit .ensures h (start-of c .args .lengths .now) law s)
-
-accept-requires : tie.Need-accept-requires
-accept-requires c κs =
-    let admitted = c .before .before in
-    let known = admitted .before .before .before .before .before in
-    let ticked = known .before .before in
-    let start = ticked .before .before in
-    let pre = start .pre in
-    record {
-      history = pre .history;
-      lawful = pre .lawful;
-      shows = pre .shows;
-      allowed =
-          now-allowed (pre .lawful) (pre .shows) (start .args .stamp) (start .args .class) (start .args .length) (ticked .tick .ensures) _ (known .now .given .1)
-          (opened admitted (pre .history) (pre .lawful) (pre .shows));
-    }
+is-accepted-requires : tie.Need-is-accepted-requires
+is-accepted-requires c κs = search needs
 
 move-clock-requires : tie.Need-move-clock-requires
 move-clock-requires c κs = search needs
 
-returns-3 : tie.Need-returns-3
-returns-3 c =
-    let accepted = c .before .before in
-    let admitted = accepted .before .before .before in
-    let known = admitted .before .before .before .before .before in
+returns-2 : tie.Need-returns-2
+returns-2 c =
+    let asked = c .before .before .before in
+    let received = asked .before in
+    let known = received .before .before .before .before in
     let ticked = known .before .before in
     let start = ticked .before .before in
     promised (start .pre) (λ h law s.
-    let passing = opened admitted h law s in
-    accepted-right law s (start .args .stamp) (start .args .class) (start .args .length) (ticked .tick .ensures) _ (known .now .given .1) passing (start .fits .stamp .fits)
-    (accepted .accept .ensures h law s
-    (now-allowed law s (start .args .stamp) (start .args .class) (start .args .length) (ticked .tick .ensures) _ (known .now .given .1) passing))
-    (c .move-clock .ensures))
+    moved-right law s (start .args .stamp) (start .args .class) (start .args .length) (ticked .tick .ensures) _ (known .now .given .1) _ _ (received .receive .result)
+    (sym (asked .is-accepted .ensures) ∙ c .before .before .if1 .taken) (received .receive .ensures h law s) (start .fits .stamp .fits) (c .move-clock .ensures))
+
+returns-3 : tie.Need-returns-3
+returns-3 c =
+    let asked = c .before in
+    let received = asked .before in
+    let known = received .before .before .before .before in
+    let ticked = known .before .before in
+    let start = ticked .before .before in
+    promised (start .pre) (λ h law s.
+    unmoved-right law s (start .args .stamp) (start .args .class) (start .args .length) (ticked .tick .ensures) _ (known .now .given .1) _ _ (received .receive .result)
+    (sym (asked .is-accepted .ensures) ∙ c .if1 .left) (received .receive .ensures h law s))
 
 pub arrive-spec : {M : Type 1} → statement M
 arrive-spec =
@@ -102,10 +66,8 @@ arrive-spec =
     tick-requires
     enum-known-why
     enum-known-now
-    admit-requires
-    enum-known-why-2
-    enum-told
-    accept-requires
+    receive-requires
+    is-accepted-requires
     move-clock-requires
     returns
     returns-2

@@ -1,4 +1,4 @@
--- `tree::rules::depth_of` meets its contract: the loop's invariant is that the steps taken and the depth of the class reached are the depth asked for.
+-- `tree::checks::depth_of` meets its contract: the loop's invariant is that the steps taken and the depth of the class reached are the depth asked for.
 -- Assumes nothing.
 use Prim.Native.Nat.{suc, _+_, _≤_, _<_}
 use mathlib.Core.Path.{_≡_}
@@ -6,8 +6,8 @@ use native.Mathlib.Omega.{arith}
 use borrow.Author.Needs.{needs}
 use Rattle.tree.specs.Trees.{depth}
 use Rattle.tree.proofs.Depths.{lower-parent, depth-root, depth-up}
-use Rattle.tree.proofs.rules.depth_of.Statement.{statement}
-use Rattle.tree.proofs.rules.depth_of.Tie as tie
+use Rattle.tree.proofs.checks.depth_of.Statement.{statement}
+use Rattle.tree.proofs.checks.depth_of.Tie as tie
 
 abbrev Inv-loop : tie.InvT-loop
 Inv-loop tree class steps₀ here₀ steps here = (steps + here ≤ class) × (steps + depth tree here ≡ depth tree class)

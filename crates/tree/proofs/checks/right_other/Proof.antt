@@ -1,9 +1,9 @@
--- `tree::rules::right_other` meets its contract: what the tests left is the rule's first parts, and the curve layer answers for the curve.
+-- `tree::checks::right_other` meets its contract: what the tests left is the rule's first parts, and the curve layer answers for the curve.
 -- Assumes nothing.
 use borrow.Author.Needs.{needs}
 use Rattle.curve.proofs.Laws.Answers.{exactly-iff}
-use Rattle.tree.proofs.rules.right_other.Statement.{statement}
-use Rattle.tree.proofs.rules.right_other.Tie as tie
+use Rattle.tree.proofs.checks.right_other.Statement.{statement}
+use Rattle.tree.proofs.checks.right_other.Tie as tie
 
 returns : tie.Need-returns
 returns c = search needs

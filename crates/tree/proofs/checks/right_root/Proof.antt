@@ -1,9 +1,9 @@
--- `tree::rules::right_root` meets its contract: what the tests left is the rule's first two parts, and `no_curve` answers the third.
+-- `tree::checks::right_root` meets its contract: what the tests left is the rule's first two parts, and `no_curve` answers the third.
 -- Assumes nothing.
 use borrow.Author.Needs.{needs}
 use Rattle.curve.proofs.Laws.Answers.{exactly-iff}
-use Rattle.tree.proofs.rules.right_root.Statement.{statement}
-use Rattle.tree.proofs.rules.right_root.Tie as tie
+use Rattle.tree.proofs.checks.right_root.Statement.{statement}
+use Rattle.tree.proofs.checks.right_root.Tie as tie
 
 returns : tie.Need-returns
 returns c = search needs

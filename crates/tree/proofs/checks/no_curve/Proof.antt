@@ -1,4 +1,4 @@
--- `tree::rules::no_curve` meets its contract: the second arm is given that the curve is the second, third or fourth kind, and none at all is the first.
+-- `tree::checks::no_curve` meets its contract: the second arm is given that the curve is the second, third or fourth kind, and none at all is the first.
 -- Assumes nothing.
 use mathlib.Core.Path.{ap}
 use mathlib.Core.Logic.{⊎-elim}
@@ -6,8 +6,8 @@ use native.Mathlib.Omega.{arith}
 use borrow.Author.Needs.{needs}
 use denote.Enum.Declared.{tagOf}
 use Rattle.curve.proofs.Curve.{the-type}
-use Rattle.tree.proofs.rules.no_curve.Statement.{statement}
-use Rattle.tree.proofs.rules.no_curve.Tie as tie
+use Rattle.tree.proofs.checks.no_curve.Statement.{statement}
+use Rattle.tree.proofs.checks.no_curve.Tie as tie
 
 enum-told : tie.Need-enum-told
 enum-told c = search needs

@@ -1,4 +1,4 @@
--- `tree::rules::curve_above_children` meets its contract: the loop's invariant is that every class passed keeps the rule.
+-- `tree::checks::curve_above_children` meets its contract: the loop's invariant is that every class passed keeps the rule.
 -- Assumes nothing.
 use Prim.Native.Nat.{_≤_, _-_}
 use native.Mathlib.Omega.{arith}
@@ -6,8 +6,8 @@ use borrow.Author.Count.{below-none, below-more}
 use borrow.Author.Needs.{needs}
 use Rattle.tree.specs.Rules.{RightPlace, EveryClass}
 use Rattle.curve.proofs.Laws.Answers.{untold-no, untold-yes}
-use Rattle.tree.proofs.rules.curve_above_children.Statement.{statement}
-use Rattle.tree.proofs.rules.curve_above_children.Tie as tie
+use Rattle.tree.proofs.checks.curve_above_children.Statement.{statement}
+use Rattle.tree.proofs.checks.curve_above_children.Tie as tie
 
 abbrev Inv-loop : tie.InvT-loop
 Inv-loop tree count i₀ i = (i ≤ tree .count) × EveryClass (RightPlace tree) i

@@ -1,4 +1,4 @@
--- `tree::rules::wrong_body` meets its contract: the loop's invariant is that every class passed keeps the rule.
+-- `tree::checks::wrong_body` meets its contract: the loop's invariant is that every class passed keeps the rule.
 -- Assumes nothing.
 use Prim.Native.Nat.{_≤_, _-_}
 use mathlib.Core.Path.{subst}
@@ -9,8 +9,8 @@ use Rattle.curve.specs.Answers.{Exactly}
 use Rattle.tree.specs.Rules.{RightClass, RightBody, EveryClass}
 use Rattle.tree.specs.declared.Class.{Class}
 use Rattle.curve.proofs.Laws.Answers.{untold-no, untold-yes}
-use Rattle.tree.proofs.rules.wrong_body.Statement.{statement}
-use Rattle.tree.proofs.rules.wrong_body.Tie as tie
+use Rattle.tree.proofs.checks.wrong_body.Statement.{statement}
+use Rattle.tree.proofs.checks.wrong_body.Tie as tie
 
 abbrev Inv-loop : tie.InvT-loop
 Inv-loop tree count i₀ i = (i ≤ tree .count) × EveryClass (RightBody tree) i

@@ -1,12 +1,12 @@
--- `tree::rules::right_place` meets its contract: the rule asks something only of a class with children, and then what `no_curve` answers.
+-- `tree::checks::right_place` meets its contract: the rule asks something only of a class with children, and then what `no_curve` answers.
 -- Assumes nothing.
 use mathlib.Core.Bool.{true≢false}
 use mathlib.Core.Path.{sym, ap, _∙_}
 use borrow.Author.Needs.{needs}
 use Rattle.tree.specs.declared.Class.{Class}
 use Rattle.curve.proofs.Laws.Answers.{exactly-iff}
-use Rattle.tree.proofs.rules.right_place.Statement.{statement}
-use Rattle.tree.proofs.rules.right_place.Tie as tie
+use Rattle.tree.proofs.checks.right_place.Statement.{statement}
+use Rattle.tree.proofs.checks.right_place.Tie as tie
 
 has-child-requires : tie.Need-has-child-requires
 has-child-requires c κs = search needs

@@ -1,12 +1,12 @@
--- `tree::rules::too_deep` meets its contract: the loop's invariant is that every class passed keeps the rule.
+-- `tree::checks::too_deep` meets its contract: the loop's invariant is that every class passed keeps the rule.
 -- Assumes nothing.
 use Prim.Native.Nat.{_≤_, _-_}
 use native.Mathlib.Omega.{arith}
 use borrow.Author.Count.{below-none, below-more}
 use borrow.Author.Needs.{needs}
 use Rattle.tree.specs.Rules.{RightDepth, EveryClass}
-use Rattle.tree.proofs.rules.too_deep.Statement.{statement}
-use Rattle.tree.proofs.rules.too_deep.Tie as tie
+use Rattle.tree.proofs.checks.too_deep.Statement.{statement}
+use Rattle.tree.proofs.checks.too_deep.Tie as tie
 
 abbrev Inv-loop : tie.InvT-loop
 Inv-loop tree count i₀ i = (i ≤ tree .count) × EveryClass (RightDepth tree) i

@@ -1,4 +1,4 @@
--- `tree::rules::right_class` meets its contract: the rule goes by whether the number is 0, as the code does.
+-- `tree::checks::right_class` meets its contract: the rule goes by whether the number is 0, as the code does.
 -- Assumes nothing.
 use Prim.Native.Nat.{_<_}
 use mathlib.Core.Path.{_≡_}
@@ -6,8 +6,8 @@ use native.Mathlib.Omega.{arith}
 use borrow.Author.Needs.{needs}
 use Rattle.curve.proofs.Laws.Answers.{exactly-iff}
 use Rattle.tree.proofs.Classes.{root-right, right-root, other-right, right-other}
-use Rattle.tree.proofs.rules.right_class.Statement.{statement}
-use Rattle.tree.proofs.rules.right_class.Tie as tie
+use Rattle.tree.proofs.checks.right_class.Statement.{statement}
+use Rattle.tree.proofs.checks.right_class.Tie as tie
 
 right-root-requires : tie.Need-right-root-requires
 right-root-requires c κs = search needs

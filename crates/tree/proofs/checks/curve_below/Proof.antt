@@ -1,11 +1,11 @@
--- `tree::rules::curve_below` meets its contract: the definition goes by whether there is such a class, as the code does.
+-- `tree::checks::curve_below` meets its contract: the definition goes by whether there is such a class, as the code does.
 -- Assumes nothing.
 use mathlib.Core.Path.{sym, ap, _∙_}
 use borrow.Author.Needs.{needs}
 use Rattle.tree.specs.declared.Class.{Class}
 use Rattle.tree.proofs.Curves.{curve-below, curve-above}
-use Rattle.tree.proofs.rules.curve_below.Statement.{statement}
-use Rattle.tree.proofs.rules.curve_below.Tie as tie
+use Rattle.tree.proofs.checks.curve_below.Statement.{statement}
+use Rattle.tree.proofs.checks.curve_below.Tie as tie
 
 returns : tie.Need-returns
 returns c = sym (curve-above (c .before .before .args .tree) (c .before .before .args .class) (c .if1 .taken))

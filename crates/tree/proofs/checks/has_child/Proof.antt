@@ -1,4 +1,4 @@
--- `tree::rules::has_child` meets its contract: the loop's invariant is that no class passed is a child, as the root is none.
+-- `tree::checks::has_child` meets its contract: the loop's invariant is that no class passed is a child, as the root is none.
 -- Assumes nothing.
 use Prim.Native.Nat.{ℕ, _≤_, _<_, _-_}
 use mathlib.Core.Bool.{false}
@@ -9,8 +9,8 @@ use borrow.Author.Needs.{needs}
 use Rattle.tree.specs.Trees.{parentOf, isChild}
 use Rattle.tree.specs.declared.Class.{Class}
 use Rattle.tree.proofs.Children.{ChildOf, no-child, child-has, has-none}
-use Rattle.tree.proofs.rules.has_child.Statement.{statement}
-use Rattle.tree.proofs.rules.has_child.Tie as tie
+use Rattle.tree.proofs.checks.has_child.Statement.{statement}
+use Rattle.tree.proofs.checks.has_child.Tie as tie
 
 abbrev Inv-loop : tie.InvT-loop
 Inv-loop tree class count i₀ i = (1 ≤ i) × ((k : ℕ) → k < i → isChild tree class k ≡ false)

@@ -1,4 +1,4 @@
--- `tree::rules::curves_of` meets its contract: the loop's invariant is that every entry passed is the curve of the class of its number.
+-- `tree::checks::curves_of` meets its contract: the loop's invariant is that every entry passed is the curve of the class of its number.
 -- Assumes nothing.
 use Prim.Native.Nat.{ℕ, _≤_, _<_, _-_}
 use mathlib.Core.Path.{_≡_, sym, _∙_}
@@ -10,8 +10,8 @@ use lib.Seq.{ext-getD, getD-set-same, getD-set-other}
 use Rattle.curve.specs.declared.Curve.the-variants.{None}
 use Rattle.tree.specs.Trees.{curveBelow, curvesOf}
 use Rattle.tree.proofs.Curves.{curves-length, curves-at}
-use Rattle.tree.proofs.rules.curves_of.Statement.{statement}
-use Rattle.tree.proofs.rules.curves_of.Tie as tie
+use Rattle.tree.proofs.checks.curves_of.Statement.{statement}
+use Rattle.tree.proofs.checks.curves_of.Tie as tie
 
 abbrev Inv-loop : tie.InvT-loop
 Inv-loop tree curves₀ i₀ curves i = (i ≤ 64) × (length curves ≡ 64) × ((k : ℕ) → k < i → getD curves k None ≡ curveBelow tree k)
