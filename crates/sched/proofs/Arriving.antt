@@ -107,30 +107,11 @@ module _ (h : History) (j n : ℕ) where
       unfolding outcome
       leaf-full full = rw (leaf, le-leb 1 n some, le-leb n longest short, le-leb room (length (queue (h .calls) j)) full) refl
 
-      module _ (space : length (queue (h .calls) j) < room) where
-        pub bytes-full : end < accepted (h .calls) + weigh n → outcome (leafChecks h j n) ≡ refused 16
-        unfolding outcome
-        bytes-full full =
-            rw (
-              leaf,
-              le-leb 1 n some,
-              le-leb n longest short,
-              lt-leb room (length (queue (h .calls) j)) space,
-              lt-ltb end (accepted (h .calls) + weigh n) full,
-            )
-            refl
-
-        pub all-pass : accepted (h .calls) + weigh n ≤ end → outcome (leafChecks h j n) ≡ passed
-        unfolding outcome
-        all-pass bytes =
-            rw (
-              leaf,
-              le-leb 1 n some,
-              le-leb n longest short,
-              lt-leb room (length (queue (h .calls) j)) space,
-              le-ltb end (accepted (h .calls) + weigh n) bytes,
-            )
-            refl
+      -- only the bytes are left to decide
+      pub bytes-decide : length (queue (h .calls) j) < room → (full : Bool) → ltb end (accepted (h .calls) + weigh n) ≡ full
+          → outcome (leafChecks h j n) ≡ cond full (refused 16) passed
+      unfolding outcome
+      bytes-decide space full e = rw (leaf, le-leb 1 n some, le-leb n longest short, lt-leb room (length (queue (h .calls) j)) space, e) refl
 
 -- an arrival that passes all of its checks is one that the rules allow
 pub passed-allowed : (h : History) → Lawful h → (stamp j n : ℕ) → outcome (arrivalChecks h stamp j n) ≡ passed

@@ -1,19 +1,24 @@
 -- `sched::admit` meets its contract: its tests are the checks 11, 12, 13 and 16, in their order, read off the table.
 -- Assumes nothing.
-use Prim.Native.Nat.{ℕ, _<_}
+use Prim.Native.Nat.{ℕ, _+_, _<_}
 use mathlib.Core.Path.{_≡_, sym, _∙_}
-use mathlib.Core.Bool.{true}
+use mathlib.Core.Bool.{Bool, true, false, cond}
 use mathlib.Core.List.{List}
 use native.Mathlib.Omega.{arith}
+use lib.Dec.{ltb}
 use borrow.Author.Needs.{needs}
+use borrow.Author.Tests.{lt-ltb, le-ltb}
 use Rattle.tree.specs.Trees.{isLeaf}
-use Rattle.rules.specs.Limits.{weigh}
+use Rattle.rules.specs.Limits.{end, weigh}
 use Rattle.rules.specs.Calls.{History}
+use Rattle.rules.specs.Queues.{accepted}
 use Rattle.rules.specs.Lawful.{Lawful}
+use Rattle.rules.specs.Answers.{outcome, refused, passed}
 use Rattle.rules.proofs.Sent.{accepted-most}
 use Rattle.sched.specs.State.{Shows}
+use Rattle.sched.specs.StepsArriving.{leafChecks}
 use Rattle.sched.proofs.LeafCells.{weigh-small}
-use Rattle.sched.proofs.Arriving.{no-such-leaf, too-short, too-long, leaf-full, bytes-full, all-pass, class-narrow, leaf-shown, interior-shown, absent-shown, waiting-shown}
+use Rattle.sched.proofs.Arriving.{no-such-leaf, too-short, too-long, leaf-full, bytes-decide, class-narrow, leaf-shown, interior-shown, absent-shown, waiting-shown}
 use Rattle.sched.proofs.admit.Statement.{statement}
 use Rattle.sched.proofs.admit.Tie as tie
 
@@ -107,29 +112,35 @@ add-if6 c =
       accepted-most (r .history .tree) (r .history .calls) (r .lawful .lawful),
     )
 
+-- 11, 12 and 13 are passed, and the bytes decide
+abbrev start : tie.After-weigh → tie.Start
+start c = c .before .before .before .before .before .before .before .before .before .before .before
+
+module _ (c : tie.After-weigh) (h : History) (l : List ℕ) (law : Lawful h) (s : Shows (start c .args .words .now) l h) where
+  abbrev bytes : ℕ
+  bytes = accepted (h .calls) + weigh (start c .args .length)
+
+  decided : (full : Bool) → ltb end bytes ≡ full → outcome (leafChecks h (start c .args .class) (start c .args .length)) ≡ cond full (refused 16) passed
+  decided full e =
+      let five = c .before .before in
+      let g = five .before in
+      let four = g .before .before in
+      let d = four .before .before .before in
+      bytes-decide h (start c .args .class) (start c .args .length) (leaf (four .before .before) h l law s) (four .before .if3 .left) (four .if4 .left)
+      (omega (arith, waiting-shown law s (start c .args .class) (below (d .before) h l law s), g .get4 .ensures, g .before .get3 .ensures, five .if5 .left))
+      full
+      e
+
+  bytes-are : c .before .get5 .result + c .weigh .result ≡ bytes
+  bytes-are = omega (arith, c .before .get5 .ensures, c .weigh .ensures, s .header .bytes)
+
 returns-6 : tie.Need-returns-6
 returns-6 c = λ h l law s.
-    let w = c .before in
-    let five = w .before .before in
-    let g = five .before in
-    let four = g .before .before in
-    let d = four .before .before .before in
-    let args = d .before .before .before .args in
-    bytes-full h (args .class) (args .length) (leaf (four .before .before) h l law s) (four .before .if3 .left) (four .if4 .left)
-    (omega (arith, waiting-shown law s (args .class) (below (d .before) h l law s), g .get4 .ensures, g .before .get3 .ensures, five .if5 .left))
-    (omega (arith, w .before .get5 .ensures, w .weigh .ensures, s .header .bytes, c .if6 .taken))
+    decided (c .before) h l law s true (lt-ltb end (bytes (c .before) h l law s) (omega (arith, bytes-are (c .before) h l law s, c .if6 .taken)))
 
 returns-7 : tie.Need-returns-7
 returns-7 c = λ h l law s.
-    let w = c .before in
-    let five = w .before .before in
-    let g = five .before in
-    let four = g .before .before in
-    let d = four .before .before .before in
-    let args = d .before .before .before .args in
-    all-pass h (args .class) (args .length) (leaf (four .before .before) h l law s) (four .before .if3 .left) (four .if4 .left)
-    (omega (arith, waiting-shown law s (args .class) (below (d .before) h l law s), g .get4 .ensures, g .before .get3 .ensures, five .if5 .left))
-    (omega (arith, w .before .get5 .ensures, w .weigh .ensures, s .header .bytes, c .if6 .left))
+    decided (c .before) h l law s false (le-ltb end (bytes (c .before) h l law s) (omega (arith, bytes-are (c .before) h l law s, c .if6 .left)))
 
 pub admit-spec : {M : Type 1} → statement M
 admit-spec =

@@ -45,24 +45,16 @@ module _ (c : tie.Then1) {tree : Tree} {cs : List Call} {t : ℕ}
   short = omega (arith, value, next-short b still)
 
 mul-length : tie.Need-mul-length
-mul-length c =
-    let class = settle-class (c .before .before .before .before .before .pre .before) in
-    omega arith
+mul-length c = omega (arith, settle-class (c .before .before .before .before .before .pre .before))
 
 add-length : tie.Need-add-length
-add-length c =
-    let class = settle-class (c .before .before .before .before .before .pre .before) in
-    omega arith
+add-length c = omega (arith, settle-class (c .before .before .before .before .before .pre .before))
 
 mul-length-2 : tie.Need-mul-length-2
-mul-length-2 c =
-    let class = settle-class (c .before .before .before .before .before .pre .before) in
-    omega arith
+mul-length-2 c = omega (arith, settle-class (c .before .before .before .before .before .pre .before))
 
 element-copy-out-length : tie.Need-element-copy-out-length
-element-copy-out-length c =
-    let class = settle-class (c .before .before .before .before .before .pre .before) in
-    omega arith
+element-copy-out-length c = omega (arith, settle-class (c .before .before .before .before .before .pre .before))
 
 cast-length : tie.Need-cast-length
 cast-length c = omega (arith, short (c .before) (c .before .before .before .before .before .before .pre .before))

@@ -40,24 +40,16 @@ value c h t law shows allowed =
     ∙ take-length h law shows t (args .class) (args .rule) allowed
 
 mul-slot : tie.Need-mul-slot
-mul-slot c =
-    let small = class (c .before .before) in
-    omega arith
+mul-slot c = omega (arith, class (c .before .before))
 
 add-slot : tie.Need-add-slot
-add-slot c =
-    let small = class (c .before .before) in
-    omega arith
+add-slot c = omega (arith, class (c .before .before))
 
 mul-length : tie.Need-mul-length
-mul-length c =
-    let small = class (c .before .before) in
-    omega arith
+mul-length c = omega (arith, class (c .before .before))
 
 element-copy-out-length : tie.Need-element-copy-out-length
-element-copy-out-length c =
-    let small = class (c .before .before) in
-    omega arith
+element-copy-out-length c = omega (arith, class (c .before .before))
 
 cast-length : tie.Need-cast-length
 cast-length c =
@@ -73,14 +65,10 @@ times-of-requires : tie.Need-times-of-requires
 times-of-requires c κs = class (c .before .before .before .before)
 
 mul-lengths : tie.Need-mul-lengths
-mul-lengths c =
-    let small = class (c .before .before .before .before .before) in
-    omega arith
+mul-lengths c = omega (arith, class (c .before .before .before .before .before))
 
 element-write-lengths : tie.Need-element-write-lengths
-element-write-lengths c =
-    let small = class (c .before .before .before .before .before) in
-    omega arith
+element-write-lengths c = omega (arith, class (c .before .before .before .before .before))
 
 add-put : tie.Need-add-put
 add-put c =
@@ -204,9 +192,7 @@ settle-requires c κs =
     record { tree = p .history .tree; calls = p .history .calls; tick = p .tick; before = settling done (p .history) (p .tick) (p .lawful) (p .shows) (p .allowed) }
 
 cast-t25 : tie.Need-cast-t25
-cast-t25 c =
-    let small = class (c .before .before .before .before .before .before .before .before .before .before .before .before .before .before .before .before) in
-    omega arith
+cast-t25 c = omega (arith, class (c .before .before .before .before .before .before .before .before .before .before .before .before .before .before .before .before))
 
 returns : tie.Need-returns
 returns c = λ h t law shows allowed.

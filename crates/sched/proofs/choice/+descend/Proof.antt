@@ -25,70 +25,39 @@ descend-at t = and 1 descend-kinds.ps (is 1 descend-kinds.ps μ-descend t) desce
 abbrev descend-below : ℕ → In 1 descend-kinds.ps
 descend-below t = and 1 descend-kinds.ps (falls 1 descend-kinds.ps _<_ μ-descend t) descend.Pre
 
-descend-returns : (t : ℕ) → descend-lts.Need-returns (
+-- what the calls are known by, the inner one on a smaller measure
+abbrev claims : ℕ → descend-lts.Claims
+claims t = (
   get-reads.Asked,
   get-reads.Learnt,
   lightest-reads.Asked,
   lightest-reads.Learnt,
   descend-below t,
   descend.Post,
-) (descend-at t) descend.Post
+)
+
+descend-returns : (t : ℕ) → descend-lts.Need-returns (claims t) (descend-at t) descend.Post
 descend-returns t c = λ tree cs d. reached (deep-leaf d (c .if1 .taken))
 
-descend-get-requires : (t : ℕ) → descend-lts.Need-get-requires (
-  get-reads.Asked,
-  get-reads.Learnt,
-  lightest-reads.Asked,
-  lightest-reads.Learnt,
-  descend-below t,
-  descend.Post,
-) (descend-at t) descend.Post
+descend-get-requires : (t : ℕ) → descend-lts.Need-get-requires (claims t) (descend-at t) descend.Post
 descend-get-requires t c κs =
     let d = c .before .pre .1 .descending in
     (omega (arith, d .class, count-most (c .before .pre .1 .tree) (d .told .grown)), omega arith)
 
-descend-returns-2 : (t : ℕ) → descend-lts.Need-returns-2 (
-  get-reads.Asked,
-  get-reads.Learnt,
-  lightest-reads.Asked,
-  lightest-reads.Learnt,
-  descend-below t,
-  descend.Post,
-) (descend-at t) descend.Post
+descend-returns-2 : (t : ℕ) → descend-lts.Need-returns-2 (claims t) (descend-at t) descend.Post
 descend-returns-2 t c = λ tree cs d. reached (childless d (sym (c .before .get .ensures) ∙ c .if2 .taken))
 
-descend-lightest-requires : (t : ℕ) → descend-lts.Need-lightest-requires (
-  get-reads.Asked,
-  get-reads.Learnt,
-  lightest-reads.Asked,
-  lightest-reads.Learnt,
-  descend-below t,
-  descend.Post,
-) (descend-at t) descend.Post
+descend-lightest-requires : (t : ℕ) → descend-lts.Need-lightest-requires (claims t) (descend-at t) descend.Post
 descend-lightest-requires t c κs =
     let pre = c .before .before .before .pre .1 in
     record { tree = pre .tree; calls = pre .calls; stepping = steps-down (pre .descending) (λ e. c .if2 .left (c .before .get .ensures ∙ e)) }
 
-descend-sub-descend : (t : ℕ) → descend-lts.Need-sub-descend (
-  get-reads.Asked,
-  get-reads.Learnt,
-  lightest-reads.Asked,
-  lightest-reads.Learnt,
-  descend-below t,
-  descend.Post,
-) (descend-at t) descend.Post
+descend-sub-descend : (t : ℕ) → descend-lts.Need-sub-descend (claims t) (descend-at t) descend.Post
 descend-sub-descend t c =
     let some = c .before .before .before .if1 .left in
     omega arith
 
-descend-descend-requires : (t : ℕ) → descend-lts.Need-descend-requires (
-  get-reads.Asked,
-  get-reads.Learnt,
-  lightest-reads.Asked,
-  lightest-reads.Learnt,
-  descend-below t,
-  descend.Post,
-) (descend-at t) descend.Post
+descend-descend-requires : (t : ℕ) → descend-lts.Need-descend-requires (claims t) (descend-at t) descend.Post
 descend-descend-requires t c κs =
     let start = c .before .before .before .before in
     let pre = start .pre .1 in
@@ -98,28 +67,14 @@ descend-descend-requires t c κs =
       record { tree = pre .tree; calls = pre .calls; descending = descends-on (pre .descending) (c .lightest .result) some (c .lightest .ensures (pre .tree) (pre .calls) s) },
     )
 
-descend-returns-3 : (t : ℕ) → descend-lts.Need-returns-3 (
-  get-reads.Asked,
-  get-reads.Learnt,
-  lightest-reads.Asked,
-  lightest-reads.Learnt,
-  descend-below t,
-  descend.Post,
-) (descend-at t) descend.Post
+descend-returns-3 : (t : ℕ) → descend-lts.Need-returns-3 (claims t) (descend-at t) descend.Post
 descend-returns-3 t c = λ tree cs d.
     let some = c .before .before .before .before .if1 .left in
     let first = c .before .lightest .ensures tree cs (steps-down d (λ e. c .before .before .if2 .left (c .before .before .before .get .ensures ∙ e))) in
     down first (c .descend .ensures tree cs (descends-on d (c .before .lightest .result) some first))
 
 pub +descend-spec : {M : Type 1} → statement M
-+descend-spec = close μ-descend λ t. descend-lts.spec (
-  get-reads.Asked,
-  get-reads.Learnt,
-  lightest-reads.Asked,
-  lightest-reads.Learnt,
-  descend-below t,
-  descend.Post,
-)
++descend-spec = close μ-descend λ t. descend-lts.spec (claims t)
     (descend-at t)
     descend.Post
     (descend-returns t)

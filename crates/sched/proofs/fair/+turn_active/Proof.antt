@@ -27,7 +27,9 @@ abbrev turn-active-below : ℕ → In 1 turn-active-kinds.ps
 turn-active-below t =
     and 1 turn-active-kinds.ps (falls 1 turn-active-kinds.ps _<_ μ-turn-active t) turn-active.Pre
 
-turn-active-returns : (t : ℕ) → turn-active-lts.Need-returns (
+-- what the calls are known by, the inner one on a smaller measure
+abbrev claims : ℕ → turn-active-lts.Claims
+claims t = (
   get-reads.Asked,
   get-reads.Learnt,
   start-fair-reads.Asked,
@@ -36,81 +38,29 @@ turn-active-returns : (t : ℕ) → turn-active-lts.Need-returns (
   put-reads.Learnt,
   turn-active-below t,
   turn-active.Post,
-) (turn-active-at t) turn-active.Post
+)
+
+turn-active-returns : (t : ℕ) → turn-active-lts.Need-returns (claims t) (turn-active-at t) turn-active.Post
 turn-active-returns t c = λ tree cs j b. turned-root (c .if1 .taken) b
 
-turn-active-get-requires : (t : ℕ) → turn-active-lts.Need-get-requires (
-  get-reads.Asked,
-  get-reads.Learnt,
-  start-fair-reads.Asked,
-  start-fair-reads.Learnt,
-  put-reads.Asked,
-  put-reads.Learnt,
-  turn-active-below t,
-  turn-active.Post,
-) (turn-active-at t) turn-active.Post
+turn-active-get-requires : (t : ℕ) → turn-active-lts.Need-get-requires (claims t) (turn-active-at t) turn-active.Post
 turn-active-get-requires t c κs = (turn-narrow (c .before .before .pre .1 .before), omega arith)
 
-turn-active-get-requires-2 : (t : ℕ) → turn-active-lts.Need-get-requires-2 (
-  get-reads.Asked,
-  get-reads.Learnt,
-  start-fair-reads.Asked,
-  start-fair-reads.Learnt,
-  put-reads.Asked,
-  put-reads.Learnt,
-  turn-active-below t,
-  turn-active.Post,
-) (turn-active-at t) turn-active.Post
+turn-active-get-requires-2 : (t : ℕ) → turn-active-lts.Need-get-requires-2 (claims t) (turn-active-at t) turn-active.Post
 turn-active-get-requires-2 t c κs = (turn-parent (c .before .before .before .before .pre .1 .before) (c .before .get .result) (c .before .get .ensures), omega arith)
 
-turn-active-start-fair-requires : (t : ℕ) → turn-active-lts.Need-start-fair-requires (
-  get-reads.Asked,
-  get-reads.Learnt,
-  start-fair-reads.Asked,
-  start-fair-reads.Learnt,
-  put-reads.Asked,
-  put-reads.Learnt,
-  turn-active-below t,
-  turn-active.Post,
-) (turn-active-at t) turn-active.Post
+turn-active-start-fair-requires : (t : ℕ) → turn-active-lts.Need-start-fair-requires (claims t) (turn-active-at t) turn-active.Post
 turn-active-start-fair-requires t c κs =
     record { tree = c .before .before .before .before .before .before .pre .1 .tree; before = turn-start (c .before .before .before .before .before .before .pre .1 .before) (c .before .before .before .before .before .if1 .left) (c .before .before .before .get .result) (c .before .before .before .get .ensures) }
 
-turn-active-add-put : (t : ℕ) → turn-active-lts.Need-add-put (
-  get-reads.Asked,
-  get-reads.Learnt,
-  start-fair-reads.Asked,
-  start-fair-reads.Learnt,
-  put-reads.Asked,
-  put-reads.Learnt,
-  turn-active-below t,
-  turn-active.Post,
-) (turn-active-at t) turn-active.Post
+turn-active-add-put : (t : ℕ) → turn-active-lts.Need-add-put (claims t) (turn-active-at t) turn-active.Post
 turn-active-add-put t c =
     record { fits = turn-busy (c .before .before .before .before .before .before .before .before .pre .1 .before) (c .before .before .before .before .before .before .before .if1 .left) (c .before .before .before .before .before .get .result) (c .before .before .before .before .before .get .ensures) (c .before .before .before .get2 .result) (c .before .before .before .get2 .ensures) }
 
-turn-active-put-requires : (t : ℕ) → turn-active-lts.Need-put-requires (
-  get-reads.Asked,
-  get-reads.Learnt,
-  start-fair-reads.Asked,
-  start-fair-reads.Learnt,
-  put-reads.Asked,
-  put-reads.Learnt,
-  turn-active-below t,
-  turn-active.Post,
-) (turn-active-at t) turn-active.Post
+turn-active-put-requires : (t : ℕ) → turn-active-lts.Need-put-requires (claims t) (turn-active-at t) turn-active.Post
 turn-active-put-requires t c κs = (turn-parent (c .before .before .before .before .before .before .before .before .pre .1 .before) (c .before .before .before .before .before .get .result) (c .before .before .before .before .before .get .ensures), omega arith)
 
-turn-active-turn-active-requires : (t : ℕ) → turn-active-lts.Need-turn-active-requires (
-  get-reads.Asked,
-  get-reads.Learnt,
-  start-fair-reads.Asked,
-  start-fair-reads.Learnt,
-  put-reads.Asked,
-  put-reads.Learnt,
-  turn-active-below t,
-  turn-active.Post,
-) (turn-active-at t) turn-active.Post
+turn-active-turn-active-requires : (t : ℕ) → turn-active-lts.Need-turn-active-requires (claims t) (turn-active-at t) turn-active.Post
 turn-active-turn-active-requires t c κs =
     let b = c .before .before .before .before .before .before .before .before .before .before .before .pre .1 .before in (
       subst (λ (x : ℕ). c .before .before .before .before .before .before .before .before .get .result < x) (c .before .before .before .before .before .before .before .before .before .before .before .pre .0) (turn-lower b (c .before .before .before .before .before .before .before .before .before .before .if1 .left) (c .before .before .before .before .before .before .before .before .get .result) (c .before .before .before .before .before .before .before .before .get .ensures)),
@@ -125,48 +75,21 @@ turn-active-turn-active-requires t c κs =
       },
     )
 
-turn-active-returns-2 : (t : ℕ) → turn-active-lts.Need-returns-2 (
-  get-reads.Asked,
-  get-reads.Learnt,
-  start-fair-reads.Asked,
-  start-fair-reads.Learnt,
-  put-reads.Asked,
-  put-reads.Learnt,
-  turn-active-below t,
-  turn-active.Post,
-) (turn-active-at t) turn-active.Post
+turn-active-returns-2 : (t : ℕ) → turn-active-lts.Need-returns-2 (claims t) (turn-active-at t) turn-active.Post
 turn-active-returns-2 t c = λ tree cs j b.
     let s = c .before .before .before .before .before .start-fair .ensures tree (turn-start b (c .before .before .before .before .before .before .before .before .before .before .before .if1 .left) (c .before .before .before .before .before .before .before .before .before .get .result) (c .before .before .before .before .before .before .before .before .before .get .ensures)) in
     turn-on-done b (c .before .before .before .before .before .before .before .before .before .before .before .if1 .left) (c .before .before .before .before .before .before .before .before .before .get .result) (c .before .before .before .before .before .before .before .before .before .get .ensures) (c .before .before .before .before .before .before .before .get2 .result) (c .before .before .before .before .before .before .before .get2 .ensures) _ _ s (c .before .before .before .put .ensures) (c .before .before .if2 .taken)
     (c .turn-active .ensures tree cs j
     (turn-on b (c .before .before .before .before .before .before .before .before .before .before .before .if1 .left) (c .before .before .before .before .before .before .before .before .before .get .result) (c .before .before .before .before .before .before .before .before .before .get .ensures) (c .before .before .before .before .before .before .before .get2 .result) (c .before .before .before .before .before .before .before .get2 .ensures) _ _ s (c .before .before .before .put .ensures) (c .before .before .if2 .taken)))
 
-turn-active-returns-3 : (t : ℕ) → turn-active-lts.Need-returns-3 (
-  get-reads.Asked,
-  get-reads.Learnt,
-  start-fair-reads.Asked,
-  start-fair-reads.Learnt,
-  put-reads.Asked,
-  put-reads.Learnt,
-  turn-active-below t,
-  turn-active.Post,
-) (turn-active-at t) turn-active.Post
+turn-active-returns-3 : (t : ℕ) → turn-active-lts.Need-returns-3 (claims t) (turn-active-at t) turn-active.Post
 turn-active-returns-3 t c = λ tree cs j b.
     turn-done b (c .before .before .before .before .before .before .before .before .before .if1 .left) (c .before .before .before .before .before .before .before .get .result) (c .before .before .before .before .before .before .before .get .ensures) (c .before .before .before .before .before .get2 .result) (c .before .before .before .before .before .get2 .ensures) _ _
     (c .before .before .before .start-fair .ensures tree (turn-start b (c .before .before .before .before .before .before .before .before .before .if1 .left) (c .before .before .before .before .before .before .before .get .result) (c .before .before .before .before .before .before .before .get .ensures)))
     (c .before .put .ensures) (c .if2 .left)
 
 pub +turn-active-spec : {M : Type 1} → statement M
-+turn-active-spec = close μ-turn-active λ t. turn-active-lts.spec (
-  get-reads.Asked,
-  get-reads.Learnt,
-  start-fair-reads.Asked,
-  start-fair-reads.Learnt,
-  put-reads.Asked,
-  put-reads.Learnt,
-  turn-active-below t,
-  turn-active.Post,
-)
++turn-active-spec = close μ-turn-active λ t. turn-active-lts.spec (claims t)
     (turn-active-at t)
     turn-active.Post
     (turn-active-returns t)

@@ -31,68 +31,37 @@ turn-passive-below t =
     (falls 1 turn-passive-kinds.ps _<_ μ-turn-passive t)
     turn-passive.Pre
 
-turn-passive-returns : (t : ℕ) → turn-passive-lts.Need-returns (
+-- what the calls are known by, the inner one on a smaller measure
+abbrev claims : ℕ → turn-passive-lts.Claims
+claims t = (
   get-reads.Asked,
   get-reads.Learnt,
   put-reads.Asked,
   put-reads.Learnt,
   turn-passive-below t,
   turn-passive.Post,
-) (turn-passive-at t) turn-passive.Post
+)
+
+turn-passive-returns : (t : ℕ) → turn-passive-lts.Need-returns (claims t) (turn-passive-at t) turn-passive.Post
 turn-passive-returns t c = λ tree cs leaf b. passed-root (c .if1 .taken) b
 
-turn-passive-get-requires : (t : ℕ) → turn-passive-lts.Need-get-requires (
-  get-reads.Asked,
-  get-reads.Learnt,
-  put-reads.Asked,
-  put-reads.Learnt,
-  turn-passive-below t,
-  turn-passive.Post,
-) (turn-passive-at t) turn-passive.Post
+turn-passive-get-requires : (t : ℕ) → turn-passive-lts.Need-get-requires (claims t) (turn-passive-at t) turn-passive.Post
 turn-passive-get-requires t c κs = (passing-narrow (c .before .before .pre .1 .before), omega arith)
 
-turn-passive-get-requires-2 : (t : ℕ) → turn-passive-lts.Need-get-requires-2 (
-  get-reads.Asked,
-  get-reads.Learnt,
-  put-reads.Asked,
-  put-reads.Learnt,
-  turn-passive-below t,
-  turn-passive.Post,
-) (turn-passive-at t) turn-passive.Post
+turn-passive-get-requires-2 : (t : ℕ) → turn-passive-lts.Need-get-requires-2 (claims t) (turn-passive-at t) turn-passive.Post
 turn-passive-get-requires-2 t c κs =
     (lt-trans (passing-falls (c .before .before .before .before .pre .1 .before) (c .before .get .result) (c .before .get .ensures) (some-of (c .before .before .before .if1 .left))) (passing-narrow (c .before .before .before .before .pre .1 .before)), omega arith)
 
-turn-passive-sub-busy : (t : ℕ) → turn-passive-lts.Need-sub-busy (
-  get-reads.Asked,
-  get-reads.Learnt,
-  put-reads.Asked,
-  put-reads.Learnt,
-  turn-passive-below t,
-  turn-passive.Post,
-) (turn-passive-at t) turn-passive.Post
+turn-passive-sub-busy : (t : ℕ) → turn-passive-lts.Need-sub-busy (claims t) (turn-passive-at t) turn-passive.Post
 turn-passive-sub-busy t c =
     let less = one-less (c .before .before .before .before .before .pre .1 .before) (c .before .before .get .result) (c .before .before .get .ensures) (some-of (c .before .before .before .before .if1 .left)) 0 Fair in
     omega (arith, c .get2 .ensures)
 
-turn-passive-put-requires : (t : ℕ) → turn-passive-lts.Need-put-requires (
-  get-reads.Asked,
-  get-reads.Learnt,
-  put-reads.Asked,
-  put-reads.Learnt,
-  turn-passive-below t,
-  turn-passive.Post,
-) (turn-passive-at t) turn-passive.Post
+turn-passive-put-requires : (t : ℕ) → turn-passive-lts.Need-put-requires (claims t) (turn-passive-at t) turn-passive.Post
 turn-passive-put-requires t c κs =
     (lt-trans (passing-falls (c .before .before .before .before .before .before .pre .1 .before) (c .before .before .before .get .result) (c .before .before .before .get .ensures) (some-of (c .before .before .before .before .before .if1 .left))) (passing-narrow (c .before .before .before .before .before .before .pre .1 .before)), omega arith)
 
-turn-passive-turn-passive-requires : (t : ℕ) → turn-passive-lts.Need-turn-passive-requires (
-  get-reads.Asked,
-  get-reads.Learnt,
-  put-reads.Asked,
-  put-reads.Learnt,
-  turn-passive-below t,
-  turn-passive.Post,
-) (turn-passive-at t) turn-passive.Post
+turn-passive-turn-passive-requires : (t : ℕ) → turn-passive-lts.Need-turn-passive-requires (claims t) (turn-passive-at t) turn-passive.Post
 turn-passive-turn-passive-requires t c κs = (
   rw (c .before .before .before .before .before .before .before .before .before .pre .0) at (passing-falls (c .before .before .before .before .before .before .before .before .before .pre .1 .before) (c .before .before .before .before .before .before .get .result) (c .before .before .before .before .before .before .get .ensures) (some-of (c .before .before .before .before .before .before .before .before .if1 .left))),
   record {
@@ -106,41 +75,20 @@ turn-passive-turn-passive-requires t c κs = (
   },
 )
 
-turn-passive-returns-2 : (t : ℕ) → turn-passive-lts.Need-returns-2 (
-  get-reads.Asked,
-  get-reads.Learnt,
-  put-reads.Asked,
-  put-reads.Learnt,
-  turn-passive-below t,
-  turn-passive.Post,
-) (turn-passive-at t) turn-passive.Post
+turn-passive-returns-2 : (t : ℕ) → turn-passive-lts.Need-returns-2 (claims t) (turn-passive-at t) turn-passive.Post
 turn-passive-returns-2 t c = λ tree cs leaf b.
     passed-step b (c .before .before .before .before .before .before .before .get .result) (c .before .before .before .before .before .before .before .get .ensures) (some-of (c .before .before .before .before .before .before .before .before .before .if1 .left))
     (c .before .before .before .before .before .get2 .result - 1) (ap (λ (x : ℕ). x - 1) (c .before .before .before .before .before .get2 .ensures))
     (c .before .before .before .put .ensures) (c .before .before .if2 .taken) (λ told. c .turn-passive .ensures tree cs leaf told)
 
-turn-passive-returns-3 : (t : ℕ) → turn-passive-lts.Need-returns-3 (
-  get-reads.Asked,
-  get-reads.Learnt,
-  put-reads.Asked,
-  put-reads.Learnt,
-  turn-passive-below t,
-  turn-passive.Post,
-) (turn-passive-at t) turn-passive.Post
+turn-passive-returns-3 : (t : ℕ) → turn-passive-lts.Need-returns-3 (claims t) (turn-passive-at t) turn-passive.Post
 turn-passive-returns-3 t c = λ tree cs leaf b.
     passed-halt b (c .before .before .before .before .before .get .result) (c .before .before .before .before .before .get .ensures) (some-of (c .before .before .before .before .before .before .before .if1 .left))
     (c .before .before .before .get2 .result - 1) (ap (λ (x : ℕ). x - 1) (c .before .before .before .get2 .ensures))
     (c .before .put .ensures) (c .if2 .left)
 
 pub +turn-passive-spec : {M : Type 1} → statement M
-+turn-passive-spec = close μ-turn-passive λ t. turn-passive-lts.spec (
-  get-reads.Asked,
-  get-reads.Learnt,
-  put-reads.Asked,
-  put-reads.Learnt,
-  turn-passive-below t,
-  turn-passive.Post,
-)
++turn-passive-spec = close μ-turn-passive λ t. turn-passive-lts.spec (claims t)
     (turn-passive-at t)
     turn-passive.Post
     (turn-passive-returns t)
