@@ -61,17 +61,24 @@ fn packet(out: &mut [u8], used: usize, packet: Packet) -> usize
     requires { ⌜ used < length (now out) ⌝ }
     ensures { λ r. ⌜ r < length (now (out .exit)) ⌝ }
 {
-    let at = text(out, used, b"packet class");
-    let at = number(out, at, packet.class as u64);
-    let at = text(out, at, b" number");
-    let at = number(out, at, packet.number);
-    let at = text(out, at, b" length");
-    let at = number(out, at, packet.length as u64);
+    let at = numbers(out, used, packet);
     let r = packet.rule;
     let at = rule(out, at, r);
     let t = packet.times;
     let at = times(out, at, t);
     text(out, at, b"\n")
+}
+
+fn numbers(out: &mut [u8], used: usize, packet: Packet) -> usize
+    requires { ⌜ used < length (now out) ⌝ }
+    ensures { λ r. ⌜ r < length (now (out .exit)) ⌝ }
+{
+    let at = text(out, used, b"packet class");
+    let at = number(out, at, packet.class as u64);
+    let at = text(out, at, b" number");
+    let at = number(out, at, packet.number);
+    let at = text(out, at, b" length");
+    number(out, at, packet.length as u64)
 }
 
 fn rule(out: &mut [u8], used: usize, rule: Rule) -> usize

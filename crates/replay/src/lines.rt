@@ -57,6 +57,16 @@ fn printed(run: Run, used: usize) -> Run
     next
 }
 
+// After `start`.
+fn started(run: Run, used: usize) -> Run
+    ensures { λ r. ⌜ r .used ≡ used ⌝ }
+{
+    let mut next = run;
+    next.used = used;
+    next.is_started = true;
+    next
+}
+
 // Replays the next line, which is lent without its end.
 pub fn replay(
     tree: Tree,
@@ -96,10 +106,8 @@ fn first(
     let Line::Start { stamp } = call else {
         return other(out, call, run);
     };
-    let verdict = sched::start(tree, stamp, words, lengths);
-    let mut next = printed(run, answers::verdict(out, run.used, verdict, tree.count));
-    next.is_started = true;
-    next
+    let at = start(tree, stamp, words, lengths, out, run.used);
+    started(run, at)
 }
 
 // A line after `start`.
@@ -121,16 +129,64 @@ fn later(
             stamp,
             class,
             length,
-        } => {
-            let answer = sched::arrive(words, lengths, stamp, class, length);
-            printed(run, answers::arrival(out, run.used, answer))
-        }
-        Line::Depart { stamp } => {
-            let answer = sched::depart(words, lengths, stamp);
-            printed(run, answers::departure(out, run.used, answer))
-        }
+        } => printed(
+            run,
+            arrive(words, lengths, stamp, class, length, out, run.used),
+        ),
+        Line::Depart { stamp } => printed(run, depart(words, lengths, stamp, out, run.used)),
         _ => other(out, call, run),
     }
+}
+
+// The three calls, each with its answer printed.
+fn start(
+    tree: Tree,
+    stamp: u32,
+    words: &mut [u64; 1536],
+    lengths: &mut [u16; 4096],
+    out: &mut [u8],
+    used: usize,
+) -> usize
+    requires { ⌜ used < length (now out) ⌝ }
+    ensures { λ r. ⌜ Reached (now (words .exit)) (now (lengths .exit)) ⌝ }
+    ensures { λ r. ⌜ r < length (now (out .exit)) ⌝ }
+{
+    let answer = sched::start(tree, stamp, words, lengths);
+    answers::verdict(out, used, answer, tree.count)
+}
+
+fn arrive(
+    words: &mut [u64; 1536],
+    lengths: &mut [u16; 4096],
+    stamp: u32,
+    class: u32,
+    bytes: u32,
+    out: &mut [u8],
+    used: usize,
+) -> usize
+    requires { ⌜ Reached (now words) (now lengths) ⌝ }
+    requires { ⌜ used < length (now out) ⌝ }
+    ensures { λ r. ⌜ Reached (now (words .exit)) (now (lengths .exit)) ⌝ }
+    ensures { λ r. ⌜ r < length (now (out .exit)) ⌝ }
+{
+    let answer = sched::arrive(words, lengths, stamp, class, bytes);
+    answers::arrival(out, used, answer)
+}
+
+fn depart(
+    words: &mut [u64; 1536],
+    lengths: &mut [u16; 4096],
+    stamp: u32,
+    out: &mut [u8],
+    used: usize,
+) -> usize
+    requires { ⌜ Reached (now words) (now lengths) ⌝ }
+    requires { ⌜ used < length (now out) ⌝ }
+    ensures { λ r. ⌜ Reached (now (words .exit)) (now (lengths .exit)) ⌝ }
+    ensures { λ r. ⌜ r < length (now (out .exit)) ⌝ }
+{
+    let answer = sched::depart(words, lengths, stamp);
+    answers::departure(out, used, answer)
 }
 
 // A line that makes no call here: one that says nothing is passed over, and any other ends the replay.

@@ -2,6 +2,7 @@
 ghost use Prim.Native.Nat.{_≤_, _<_};
 ghost use lib.ListN.{length};
 ghost use Rattle.sched.specs.State.{Reached};
+ghost use Rattle.replay.specs.Text.{EndsAt};
 use crate::lines;
 use crate::output;
 use tree::Tree;
@@ -63,7 +64,7 @@ fn turns(
 // Where the line that starts at `from` ends: the first line's end from there on, or `end` where there is none before it.
 fn line_end(text: &[u8], from: usize, end: usize) -> usize
     requires { ⌜ (from ≤ end) × (end ≤ length (now text)) ⌝ }
-    ensures { λ r. ⌜ (from ≤ r) × (r ≤ end) ⌝ }
+    ensures { λ r. ⌜ EndsAt (now (text .entry)) from end r ⌝ }
 {
     let mut i = from;
     while i < end {
