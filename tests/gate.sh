@@ -5,7 +5,7 @@ set -u
 repo=$(cd "$(dirname "$0")/.." && pwd)
 room=$(mktemp -d) || exit 2
 trap 'rm -rf "$room"' EXIT
-mkdir -p "$room/.ci" "$room/tests/corpus" "$room/target/bin" "$room/bin"
+mkdir -p "$room/.ci" "$room/tests/corpus" "$room/bin"
 cp "$repo/.ci/run" "$repo/.ci/toolchain" "$room/.ci"
 cp "$repo/tests/corpus.sh" "$room/tests"
 cd "$room" || exit 2
@@ -33,7 +33,7 @@ ends() { # WHAT STATUS LASTLINE
 }
 
 # The stand-in prints the first letter of each of its files. Two cases: a tree with its calls, and a tree alone.
-program target/bin/replay 'for file in "$@"; do head -c 1 "$file"; echo; done'
+program replay 'for file in "$@"; do head -c 1 "$file"; echo; done'
 echo tree > tests/corpus/1.tree
 echo calls > tests/corpus/1.calls
 printf 't\nc\n' > tests/corpus/1.out
@@ -58,9 +58,9 @@ rt_ci 0 'rt: ok'
 ends 'rt ci without a count' 2 'gate: the last line of rt ci is no count'
 
 rt_ci 0 '40 passed, 0 failed'
-program target/bin/replay 'exit 3'
+program replay 'exit 3'
 ends 'a program that breaks' 1 '40 passed, 2 failed'
-rm target/bin/replay
+rm replay
 ends 'no program' 1 '40 passed, 2 failed'
 rm tests/corpus/*
 ends 'no corpus' 1 '40 passed, 1 failed'
