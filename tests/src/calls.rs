@@ -9,6 +9,8 @@ pub const CLOCK_TOP: u128 = 1 << 40;
 pub const BYTES_TOP: u128 = 1 << 40;
 pub const LENGTH_TOP: u128 = 9_000;
 pub const WAITING_TOP: usize = 64;
+/// Bytes of a line of calls, without its line feed; a longer line is not a call.
+pub const LINE_TOP: usize = 65_535;
 
 /// A packet that leaves, with the head's times as they stood before it left.
 #[derive(Clone, Copy, Debug, PartialEq, Eq)]
@@ -212,16 +214,24 @@ fn answer(tree: &Tree, state: &mut Option<State>, call: Call) -> Result<String, 
     }
 }
 
+/// A line without its line feed, as bytes.
+fn parse_bytes(line: &[u8]) -> Result<Option<Call>, Fault> {
+    if line.len() > LINE_TOP {
+        return Err(Fault::NotACall);
+    }
+    parse_line(&String::from_utf8_lossy(line))
+}
+
 /// Everything that a replay of these calls on this tree file prints.
-pub fn replay(tree_file: &[u8], calls: &str) -> String {
+pub fn replay(tree_file: &[u8], calls: impl AsRef<[u8]>) -> String {
     let tree = match file::read(tree_file) {
         Ok(tree) => tree,
         Err(refusal) => return print_tree_refusal(refusal) + "\n",
     };
     let mut printed = String::new();
     let mut state = None;
-    for (before, line) in calls.lines().enumerate() {
-        let answered = match parse_line(line) {
+    for (before, line) in calls.as_ref().split(|byte| *byte == b'\n').enumerate() {
+        let answered = match parse_bytes(line) {
             Ok(None) => continue,
             Ok(Some(call)) => answer(&tree, &mut state, call),
             Err(fault) => Err(fault),
@@ -273,6 +283,14 @@ mod tests {
         assert_eq!(replay(&tree, "depart 6\n"), "line 1: not a call\n");
         assert_eq!(replay(&tree, ""), "");
         assert_eq!(replay(&[], "start 5\n"), "refused 1 class 0\n");
+    }
+
+    #[test]
+    fn a_line_has_a_longest_length_and_the_last_needs_no_end() {
+        let tree = crate::file::file_of(&two_leaves(), crate::file::Order::Big);
+        let padded = |length: usize| format!("start 5\ndepart 6{}\ndepart 6", " ".repeat(length - 8));
+        assert_eq!(replay(&tree, padded(LINE_TOP)), "started 3\nnone waits\nnone waits\n");
+        assert_eq!(replay(&tree, padded(LINE_TOP + 1)), "started 3\nline 2: not a call\n");
     }
 
     /// 2^40 accepted bytes are out of reach, so the limit is lowered to 10,000: exactly that is allowed.

@@ -7,7 +7,7 @@ fn main() {
     let arguments: Vec<String> = std::env::args().skip(1).collect();
     match &arguments[..] {
         [tree] => print!("{}", show_tree(&read(tree))),
-        [tree, calls] => print!("{}", replay(&read(tree), &String::from_utf8_lossy(&read(calls)))),
+        [tree, calls] => print!("{}", replay(&read(tree), read(calls))),
         _ => println!("usage: model TREE [CALLS]"),
     }
 }
