@@ -1,8 +1,9 @@
 // Reads a calls file in turns, and replays its lines.
-ghost use Prim.Native.Nat.{_≤_, _<_};
+ghost use mathlib.Core.Path.{_≡_};
+ghost use Prim.Native.Nat.{_-_, _≤_, _<_};
 ghost use lib.ListN.{length};
 ghost use Rattle.sched.specs.State.{Reached};
-ghost use Rattle.replay.specs.Text.{EndsAt};
+ghost use Rattle.replay.specs.Text.{EndsAt, InFront};
 use crate::lines;
 use crate::output;
 use tree::Tree;
@@ -99,6 +100,7 @@ fn refill(fd: i32, name: &[u8], text: &mut [u8], from: usize, end: usize) -> usi
 fn keep(text: &mut [u8], from: usize, end: usize) -> usize
     requires { ⌜ (from ≤ end) × (end ≤ length (now text)) ⌝ }
     ensures { λ r. ⌜ r ≤ length (now (text .exit)) ⌝ }
+    ensures { λ r. ⌜ (r ≡ end - from) × InFront (now (text .entry)) (now (text .exit)) from r ⌝ }
 {
     let mut n = 0;
     let mut i = from;
