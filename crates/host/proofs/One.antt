@@ -8,7 +8,7 @@ use Rattle.file.specs.declared.Reading.{Reading}
 use Rattle.file.proofs.ReadOne.{read-one}
 use Rattle.rules.specs.Calls.{History}
 use Rattle.rules.specs.Answers.{started}
-use Rattle.sched.specs.State.{Shows, Reached}
+use Rattle.state.specs.State.{Shows, Reached}
 use Rattle.sched.proofs.ShowsOne.{shows-one, start-one, arrive-one, depart-one}
 use Rattle.sched.proofs.Asking.{head-times-one}
 use Rattle.host.specs.Numbers.{verdictNumber, verdictClass, arrivalNumber, packetNumber, timesNumbers, departureNumber, departureNumbers}

@@ -15,7 +15,7 @@ use Rattle.tree.proofs.Verdicts.{refused-4}
 use Rattle.file.specs.Format.{ReadsAs}
 use Rattle.rules.specs.Calls.{History}
 use Rattle.rules.specs.Answers as answers
-use Rattle.sched.specs.State.{Shows}
+use Rattle.state.specs.State.{Shows}
 use Rattle.sched.specs.Runs.{Run, started, arrived, departed}
 use Rattle.sched.proofs.RunLaws.{run-shows, run-lawful}
 use Rattle.host.specs.Promises.{StartTold, StartFileTold, ArriveTold, DepartTold}

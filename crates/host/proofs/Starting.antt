@@ -15,7 +15,7 @@ use Rattle.file.specs.Format.{ReadsAs}
 use Rattle.file.proofs.ReadLaws.Judging.{file-right}
 use Rattle.rules.specs.Calls.{History}
 use Rattle.rules.specs.Answers.{started}
-use Rattle.sched.specs.State.{Shows}
+use Rattle.state.specs.State.{Shows}
 use Rattle.sched.specs.Promises.{StartRight}
 
 pub start-of : {t u : Tree} {stamp : ℕ} {v : Verdict} {m l : List ℕ} → t ≡ u → StartRight t stamp v m l → StartRight u stamp v m l

@@ -13,7 +13,7 @@ use Rattle.rules.specs.declared.Departure.{Departure}
 use Rattle.rules.specs.Calls.{History}
 use Rattle.rules.specs.Lawful.{Lawful}
 use Rattle.rules.specs.Answers.{started}
-use Rattle.sched.specs.State.{Shows}
+use Rattle.state.specs.State.{Shows}
 use Rattle.sched.specs.Asked.{HeadTimes}
 use Rattle.sched.specs.Promises.{StartRight, ArriveRight, DepartRight}
 use Rattle.host.specs.Numbers.{verdictNumber, verdictClass, arrivalNumber, packetNumber, timesNumbers, departureNumber, departureNumbers}

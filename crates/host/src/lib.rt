@@ -15,7 +15,7 @@ ghost use Rattle.rules.specs.Clock.{clock};
 ghost use Rattle.rules.specs.Queues.{queue};
 ghost use Rattle.rules.specs.Fair.{virtualTimeOf};
 ghost use Rattle.rules.specs.Lawful.{Lawful};
-ghost use Rattle.sched.specs.State.{Shows, Reached};
+ghost use Rattle.state.specs.State.{Shows, Reached};
 ghost use Rattle.host.specs.Words.{treeSaid};
 ghost use Rattle.host.specs.Promises.{StartTold, StartFileTold, ArriveTold, DepartTold, HeadTold};
 

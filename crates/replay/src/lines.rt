@@ -2,7 +2,7 @@
 ghost use Prim.Native.Nat.{_<_};
 ghost use mathlib.Core.Path.{_≡_};
 ghost use lib.ListN.{length};
-ghost use Rattle.sched.specs.State.{Reached};
+ghost use Rattle.state.specs.State.{Reached};
 use crate::answers;
 use calls::Line;
 use tree::Tree;

@@ -2,7 +2,7 @@
 ghost use mathlib.Core.Path.{_≡_};
 ghost use Prim.Native.Nat.{_-_, _≤_, _<_};
 ghost use lib.ListN.{length};
-ghost use Rattle.sched.specs.State.{Reached};
+ghost use Rattle.state.specs.State.{Reached};
 ghost use Rattle.replay.specs.Text.{EndsAt, InFront};
 use crate::lines;
 use crate::output;

@@ -29,21 +29,21 @@ use Rattle.rules.proofs.Queues.{waits-came}
 use Rattle.rules.proofs.Active.{numbers}
 use Rattle.rules.proofs.Sent.{clock-most}
 use Rattle.rules.proofs.Answers.{arrives-lawful, stamp-kept}
-use Rattle.sched.specs.declared.ticks.Moment.{Moment}
-use Rattle.sched.specs.declared.ticks.Moment.the-variants.{At, Refused}
-use Rattle.sched.specs.Table.{at, with}
-use Rattle.sched.specs.Columns.{HEADER, CLOCK, STAMP, BYTES, COUNT, CHILD, CAME, LEFT, BYTES-RT, STEEP-START, STEEP-SENT, FLAT-START, FLAT-SENT, ELIGIBLE, DEADLINE}
-use Rattle.sched.specs.State.{hasTimes, ShowsLeaf, ShowsSlots, Shows, Reached}
+use Rattle.state.specs.declared.ticks.Moment.{Moment}
+use Rattle.state.specs.declared.ticks.Moment.the-variants.{At, Refused}
+use Rattle.state.specs.Table.{at, with}
+use Rattle.state.specs.Columns.{HEADER, CLOCK, STAMP, BYTES, COUNT, CHILD, CAME, LEFT, BYTES-RT, STEEP-START, STEEP-SENT, FLAT-START, FLAT-SENT, ELIGIBLE, DEADLINE}
+use Rattle.state.specs.State.{hasTimes, ShowsLeaf, ShowsSlots, Shows, Reached}
 use Rattle.sched.specs.Promises.{ArriveRight}
-use Rattle.sched.specs.Steps.{keptIn, pickMoment, tickOf}
+use Rattle.state.specs.Steps.{keptIn, pickMoment, tickOf}
 use Rattle.sched.specs.StepsArriving.{leafChecks, BeforeBegin, AfterBegin, ShowsButClock, ReceiveAccepted, ReceiveRight, isAccepted}
-use Rattle.sched.proofs.Cells.{length-with, at-with-same, at-with-class, at-with-column}
-use Rattle.sched.proofs.Chain.{childless-leaf, some-child-interior}
-use Rattle.sched.proofs.Choosing.{count-most}
-use Rattle.sched.proofs.LeafCells.{stored, kept-in, tree-cells, fair-cells}
+use Rattle.state.proofs.Cells.{length-with, at-with-same, at-with-class, at-with-column}
+use Rattle.state.proofs.Chain.{childless-leaf, some-child-interior}
+use Rattle.state.proofs.Choosing.{count-most}
+use Rattle.state.proofs.LeafCells.{stored, kept-in, tree-cells, fair-cells}
 use Rattle.sched.proofs.ArrivingSlots.{slots-came}
 use Rattle.sched.proofs.ArrivingLeaf.{number-own, number-other, same-self, same-other, same-waiting, leaf-cells, timed-leaf, leaf-timed}
-use Rattle.sched.proofs.WakingFair.{fair-came-on}
+use Rattle.state.proofs.WakingFair.{fair-came-on}
 
 -- 14 and 15
 

@@ -23,12 +23,12 @@ use Rattle.rules.proofs.Tests.{never, and-right, by-cond, cond-yes, cond-no}
 use Rattle.rules.proofs.Queues.{queue-came, queue-came-other, waits-came}
 use Rattle.rules.proofs.Active.{choice-waits}
 use Rattle.rules.proofs.Leaves.{Some, has-piece}
-use Rattle.sched.specs.Table.{at}
-use Rattle.sched.specs.Columns.{CAME, LEFT, BYTES-RT, STEEP-START, STEEP-SENT, FLAT-START, FLAT-SENT, ELIGIBLE, DEADLINE}
-use Rattle.sched.specs.State.{keptFor, hasTimes, ShowsLeaf}
-use Rattle.sched.specs.Steps.{keptIn}
+use Rattle.state.specs.Table.{at}
+use Rattle.state.specs.Columns.{CAME, LEFT, BYTES-RT, STEEP-START, STEEP-SENT, FLAT-START, FLAT-SENT, ELIGIBLE, DEADLINE}
+use Rattle.state.specs.State.{keptFor, hasTimes, ShowsLeaf}
+use Rattle.state.specs.Steps.{keptIn}
 use Rattle.sched.specs.StepsArriving.{LeafTimed}
-use Rattle.sched.proofs.LeafCells.{kept-in}
+use Rattle.state.proofs.LeafCells.{kept-in}
 
 -- the pieces after an arrival
 

@@ -12,7 +12,7 @@ use Rattle.rules.specs.Calls.{Call, came}
 use Rattle.rules.specs.Queues.{queue, headNumber, nextNumber}
 use Rattle.rules.proofs.Tests.{equal-or-not}
 use Rattle.rules.proofs.Queues.{queue-came, queue-came-other}
-use Rattle.sched.specs.State.{ShowsSlots}
+use Rattle.state.specs.State.{ShowsSlots}
 
 module _ (l : List ℕ) (cs : List Call) (t j n : ℕ) (room : length l ≡ 4096) (class : j < 64) (space : length (queue cs j) < 64)
     (numbered : headNumber cs j + length (queue cs j) ≡ nextNumber cs j) (slots : (i : ℕ) → i < 64 → ShowsSlots l cs i) where

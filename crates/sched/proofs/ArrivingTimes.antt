@@ -26,13 +26,14 @@ use Rattle.rules.proofs.Tests.{never}
 use Rattle.rules.proofs.Trees.{leaf-class, curve-rising}
 use Rattle.rules.proofs.Sent.{weigh-some, c-below-w, w-most}
 use Rattle.rules.proofs.Leaves.{pieces-in-order}
-use Rattle.sched.specs.Table.{at}
-use Rattle.sched.specs.Columns.{KIND, BYTES-RT, ELIGIBLE, DEADLINE}
-use Rattle.sched.specs.State.{keptFor, ShowsTree}
-use Rattle.sched.specs.Steps.{curveIn, keptIn, withKept, DueStored, RipeStored, NarrowCurve, KeptSoon, BeforeWaking, AfterWaking}
-use Rattle.sched.specs.StepsArriving.{LeafOnly, BeforeBegin, AfterTiming, AfterBegin}
-use Rattle.sched.proofs.Cells.{at-with-same, at-with-column}
-use Rattle.sched.proofs.LeafCells.{kind-none, kind-some, curve-in, narrow-curve, curve-rises, kept-curved, kept-bare, kept-soon, tree-cells, fair-cells, only-none, only-with, only-then, only-kept, kept-with, curve-same, kept-same}
+use Rattle.state.specs.Table.{at}
+use Rattle.state.specs.Columns.{KIND, BYTES-RT, ELIGIBLE, DEADLINE}
+use Rattle.state.specs.State.{keptFor, ShowsTree}
+use Rattle.state.specs.Steps.{curveIn, keptIn, withKept, DueStored, RipeStored, NarrowCurve, KeptSoon, BeforeWaking, AfterWaking}
+use Rattle.state.specs.Steps.{LeafOnly}
+use Rattle.sched.specs.StepsArriving.{BeforeBegin, AfterTiming, AfterBegin}
+use Rattle.state.proofs.Cells.{at-with-same, at-with-column}
+use Rattle.state.proofs.LeafCells.{kind-none, kind-some, curve-in, narrow-curve, curve-rises, kept-curved, kept-bare, kept-soon, tree-cells, fair-cells, only-none, only-with, only-then, only-kept, kept-with, curve-same, kept-same}
 use Rattle.sched.proofs.ArrivingLeaf.{pieces-begun, unsent, kept-adds, head-begun, timed-cells}
 
 -- by the definitions

@@ -25,9 +25,9 @@ use Rattle.rules.proofs.Trees.{leaf-class, within-le}
 use Rattle.rules.proofs.Queues.{waits-leaf}
 use Rattle.rules.proofs.Active.{numbers}
 use Rattle.rules.proofs.Leaves.{eligible-before-deadline, deadline-below}
-use Rattle.sched.specs.Table.{at}
-use Rattle.sched.specs.Columns.{HEADER, COUNT, CAME, LEFT, ELIGIBLE, DEADLINE, VIRTUAL, NEVER}
-use Rattle.sched.specs.State.{Shows, Reached, hasTimes}
+use Rattle.state.specs.Table.{at}
+use Rattle.state.specs.Columns.{HEADER, COUNT, CAME, LEFT, ELIGIBLE, DEADLINE, VIRTUAL, NEVER}
+use Rattle.state.specs.State.{Shows, Reached, hasTimes}
 use Rattle.sched.specs.Asked.{HeadTimed, HeadTimes}
 
 -- a class that is not there

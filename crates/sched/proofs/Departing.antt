@@ -28,12 +28,12 @@ use Rattle.rules.specs.Leaves.{isRealTime, sentRealTime, pieces}
 use Rattle.rules.proofs.Tests.{never, is-false, and-right, cond-yes, cond-no}
 use Rattle.rules.proofs.Queues.{queue-left, queue-left-other}
 use Rattle.rules.proofs.Leaves.{Some}
-use Rattle.sched.specs.Table.{at, with}
-use Rattle.sched.specs.Columns.{KIND, RATE, BEND, LAST, CAME, BYTES-RT, STEEP-START, FLAT-START, ELIGIBLE, DEADLINE}
-use Rattle.sched.specs.State.{keptFor, ShowsLeaf, ShowsSlots}
-use Rattle.sched.specs.Steps.{curveBy, curveIn, RipeStored}
+use Rattle.state.specs.Table.{at, with}
+use Rattle.state.specs.Columns.{KIND, RATE, BEND, LAST, CAME, BYTES-RT, STEEP-START, FLAT-START, ELIGIBLE, DEADLINE}
+use Rattle.state.specs.State.{keptFor, ShowsLeaf, ShowsSlots}
+use Rattle.state.specs.Steps.{curveBy, curveIn, RipeStored}
 use Rattle.sched.specs.StepsDeparting.{counted, timesIn, Timable, Ripened}
-use Rattle.sched.proofs.Cells.{at-with-column}
+use Rattle.state.proofs.Cells.{at-with-column}
 use Rattle.sched.proofs.ArrivingLeaf.{SameLeaf, leaf-cells}
 
 -- The definitions of a leaf after a departure.

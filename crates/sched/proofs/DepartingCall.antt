@@ -22,15 +22,16 @@ use Rattle.rules.specs.Choice.{Choice, NothingWaits}
 use Rattle.rules.specs.Lawful.{Timely, Allowed, Lawful}
 use Rattle.rules.specs.Answers.{passed, outcome, ticks, nextClock, departureChecks, withCall}
 use Rattle.rules.proofs.Answers.{departs-lawful, stamp-kept}
-use Rattle.sched.specs.declared.ticks.Moment.{Moment}
-use Rattle.sched.specs.Table.{at, with}
-use Rattle.sched.specs.Columns.{HEADER, CLOCK, STAMP}
-use Rattle.sched.specs.State.{activity, ShowsFair, Shows, Reached}
+use Rattle.state.specs.declared.ticks.Moment.{Moment}
+use Rattle.state.specs.Table.{at, with}
+use Rattle.state.specs.Columns.{HEADER, CLOCK, STAMP}
+use Rattle.state.specs.State.{activity, ShowsFair, Shows, Reached}
 use Rattle.sched.specs.Promises.{DepartRight}
-use Rattle.sched.specs.Steps.{tickOf}
+use Rattle.state.specs.Steps.{tickOf}
 use Rattle.sched.specs.StepsArriving.{ShowsButClock}
-use Rattle.sched.specs.StepsDeparting.{Told, TakeRight}
-use Rattle.sched.proofs.Choosing.{count-most}
+use Rattle.state.specs.StepsChoosing.{Told}
+use Rattle.sched.specs.StepsDeparting.{TakeRight}
+use Rattle.state.proofs.Choosing.{count-most}
 use Rattle.sched.proofs.ArrivingLeaf.{SameLeaf, leaf-cells}
 use Rattle.sched.proofs.Arriving.{tick-refused, tick-kept, checks-after, tick-shown, clock-moved}
 

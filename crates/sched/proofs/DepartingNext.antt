@@ -26,16 +26,16 @@ use Rattle.rules.proofs.Queues.{queue-left, waits-leaf, head-length}
 use Rattle.rules.proofs.Active.{choice-waits, numbers}
 use Rattle.rules.proofs.Sent.{weigh-some, c-below-w, w-most}
 use Rattle.rules.proofs.Leaves.{pieces-in-order, has-piece}
-use Rattle.sched.specs.Table.{at, with}
-use Rattle.sched.specs.Columns.{KIND, CAME, LEFT, BYTES-RT, STEEP-START, STEEP-SENT, FLAT-START, FLAT-SENT, ELIGIBLE, DEADLINE, ACTIVE, NEVER}
-use Rattle.sched.specs.State.{keptFor, hasTimes, ShowsTree}
-use Rattle.sched.specs.Steps.{curveIn, keptIn, RipeStored, DueStored, Planted, BeforeRest, AfterRest}
-use Rattle.sched.specs.StepsArriving.{LeafOnly}
+use Rattle.state.specs.Table.{at, with}
+use Rattle.state.specs.Columns.{KIND, CAME, LEFT, BYTES-RT, STEEP-START, STEEP-SENT, FLAT-START, FLAT-SENT, ELIGIBLE, DEADLINE, ACTIVE, NEVER}
+use Rattle.state.specs.State.{keptFor, hasTimes, ShowsTree}
+use Rattle.state.specs.Steps.{curveIn, keptIn, RipeStored, DueStored, Planted, BeforeRest, AfterRest}
+use Rattle.state.specs.Steps.{LeafOnly}
 use Rattle.sched.specs.StepsDeparting.{Timable, Ripened, NextTimed, untimed, timed, ShowsTimes, BeforeSettle, AfterSettle}
-use Rattle.sched.proofs.Cells.{at-with-same, at-with-column}
-use Rattle.sched.proofs.LeafCells.{kind-none, kind-some, curve-in, narrow-curve, curve-rises, kept-curved, kept-soon, tree-cells, only-none, only-with, only-then, curve-same, kept-same}
-use Rattle.sched.proofs.Resting.{still-active}
-use Rattle.sched.proofs.Choosing.{count-most}
+use Rattle.state.proofs.Cells.{at-with-same, at-with-column}
+use Rattle.state.proofs.LeafCells.{kind-none, kind-some, curve-in, narrow-curve, curve-rises, kept-curved, kept-soon, tree-cells, only-none, only-with, only-then, curve-same, kept-same}
+use Rattle.state.proofs.Resting.{still-active}
+use Rattle.state.proofs.Choosing.{count-most}
 use Rattle.sched.proofs.Departing.{kept-stay, pieces-stay, bytes-fair, head-at, deadline-from, eligible-from}
 
 some-nonempty : (ns : List ℕ) → 0 < length ns → isNonempty ns ≡ true

@@ -1,22 +1,6 @@
--- The laws of the scheduler's state.
-pub mod Cells
-pub mod Resting
-pub mod RestingSteps
-pub mod RestingFair
-pub mod RestingLift
-pub mod LeafCells
-pub mod Chain
-pub mod Choosing
-pub mod ChoosingDown
+-- The laws of the scheduler's calls.
 pub mod Asking
-pub mod Zeros
-pub mod Starting
-pub mod StartingLinks
 pub mod StartingShows
-pub mod WakingChildren
-pub mod WakingFair
-pub mod WakingCells
-pub mod WakingTurn
 pub mod ArrivingSlots
 pub mod ArrivingLeaf
 pub mod ArrivingTimes

@@ -6,7 +6,7 @@ use Rattle.rules.specs.Calls.{History}
 use Rattle.rules.specs.Lawful.{Lawful}
 use Rattle.rules.proofs.Answers.{arrives-lawful, departs-lawful, starts-lawful}
 use Rattle.rules.proofs.Link.Guarantee.{guarantee}
-use Rattle.sched.specs.State.{Shows, Reached}
+use Rattle.state.specs.State.{Shows, Reached}
 use Rattle.sched.specs.Runs.{Run, started, arrived, departed, RunsGuaranteed}
 
 pub run-shows : {m l : List ℕ} {h : History} → Run m l h → Shows m l h

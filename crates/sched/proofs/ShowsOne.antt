@@ -19,11 +19,11 @@ use Rattle.rules.specs.Lawful.{Lawful}
 use Rattle.rules.proofs.Tests.{decided}
 use Rattle.rules.proofs.Over.{last-or-below}
 use Rattle.rules.proofs.Answers.{starts-one, arrives-one, departs-one}
-use Rattle.sched.specs.Table.{at}
-use Rattle.sched.specs.Columns as col
-use Rattle.sched.specs.State.{hasTimes, Shows, Reached}
+use Rattle.state.specs.Table.{at}
+use Rattle.state.specs.Columns as col
+use Rattle.state.specs.State.{hasTimes, Shows, Reached}
 use Rattle.sched.specs.Promises.{StartRight, ArriveRight, DepartRight}
-use Rattle.sched.proofs.Cells.{cells-equal}
+use Rattle.state.proofs.Cells.{cells-equal}
 
 -- what is shown of each number below n, one after the other, holds of every number below n
 EachBelow : (ℕ → Type 0) → ℕ → Type 0

@@ -27,13 +27,13 @@ use Rattle.rules.specs.Answers.{started, Starts}
 use Rattle.rules.proofs.Tests.{never, is-false, and-right, by-cond}
 use Rattle.rules.proofs.Over.{none-any}
 use Rattle.rules.proofs.Answers.{first-kept, starts-lawful}
-use Rattle.sched.specs.Table.{at, with}
-use Rattle.sched.specs.Columns as col
-use Rattle.sched.specs.State.{keptFor, noKept, fairKept, activity, ShowsHeader, ShowsTree, ShowsLeaf, ShowsFair, ShowsSlots, Shows, Reached}
+use Rattle.state.specs.Table.{at, with}
+use Rattle.state.specs.Columns as col
+use Rattle.state.specs.State.{keptFor, noKept, fairKept, activity, ShowsHeader, ShowsTree, ShowsLeaf, ShowsFair, ShowsSlots, Shows, Reached}
 use Rattle.sched.specs.Promises.{StartRight}
-use Rattle.sched.specs.Planting.{AllZero, plantedCell, PlantedBelow, OnlyHeader, Linkable, Linked}
-use Rattle.sched.proofs.Cells.{length-with, at-with-same, at-with-class, at-with-column}
-use Rattle.sched.proofs.Resting.{none-counted}
+use Rattle.state.specs.Planting.{AllZero, plantedCell, PlantedBelow, OnlyHeader, Linkable, Linked}
+use Rattle.state.proofs.Cells.{length-with, at-with-same, at-with-class, at-with-column}
+use Rattle.state.proofs.Resting.{none-counted}
 
 -- a table with a stamp and a count in its header, and nothing else
 pub record Headed (m : List ℕ) (first n : ℕ) : Type 0 where

@@ -9,7 +9,7 @@ use Rattle.rules.specs.declared.Times.{Times}
 use Rattle.rules.specs.declared.Times.the-variants.{Untimed, Timed}
 use Rattle.rules.specs.Calls.{Call}
 use Rattle.rules.specs.Leaves.{DeadlineOf, EligibleOf}
-use Rattle.sched.specs.State.{hasTimes}
+use Rattle.state.specs.State.{hasTimes}
 
 pub record HeadTimed (tree : Tree) (cs : List Call) (j eligible deadline : ℕ) : Type 0 where
   pub timed : hasTimes tree cs j ≡ true

@@ -8,7 +8,7 @@ use Rattle.rules.specs.declared.Arrival.{Arrival}
 use Rattle.rules.specs.declared.Departure.{Departure}
 use Rattle.rules.specs.Calls.{History}
 use Rattle.rules.specs.Answers.{Starts, Arrives, Departs}
-use Rattle.sched.specs.State.{Shows}
+use Rattle.state.specs.State.{Shows}
 
 -- of a start with this tree and first stamp
 pub record StartRight (tree : Tree) (stamp : ℕ) (answer : Verdict) (m l : List ℕ) : Type 0 where

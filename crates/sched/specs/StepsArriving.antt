@@ -21,11 +21,11 @@ use Rattle.rules.specs.Lawful.{Allowed, Lawful}
 use Rattle.rules.specs.Answers.{Check, outcome, passed, refused, withCall}
 use Rattle.sched.specs.declared.Admission.{Admission}
 use Rattle.sched.specs.declared.Admission.the-variants.{Open}
-use Rattle.sched.specs.declared.ticks.Moment.the-variants.{At}
-use Rattle.sched.specs.Table.{at}
-use Rattle.sched.specs.Columns.{HEADER, CLOCK, STAMP, BYTES, COUNT, BYTES-RT, ELIGIBLE, DEADLINE, NEVER}
-use Rattle.sched.specs.State.{keptFor, ShowsTree, ShowsLeaf, ShowsFair, ShowsSlots, Shows, Reached}
-use Rattle.sched.specs.Steps.{keptIn, Planted, tickOf}
+use Rattle.state.specs.declared.ticks.Moment.the-variants.{At}
+use Rattle.state.specs.Table.{at}
+use Rattle.state.specs.Columns.{HEADER, CLOCK, STAMP, BYTES, COUNT, BYTES-RT, ELIGIBLE, DEADLINE, NEVER}
+use Rattle.state.specs.State.{keptFor, ShowsTree, ShowsLeaf, ShowsFair, ShowsSlots, Shows, Reached}
+use Rattle.state.specs.Steps.{keptIn, Planted, tickOf, LeafOnly}
 
 -- a table of a state, whatever lengths stand beside it
 pub record Shown (m : List ℕ) : Type 0 where
@@ -44,13 +44,6 @@ leafChecks h j n =
 abbrev pub AdmissionRight : History → ℕ → ℕ → Admission → Type 0
 AdmissionRight h j n Open = outcome (leafChecks h j n) ≡ passed
 AdmissionRight h j n (Admission.Refused why) = outcome (leafChecks h j n) ≡ refused (numberOf why)
-
--- of columns 12 to 17, the pieces and times of leaves, only those of leaf j were stored to; the others stay as they are
-pub record LeafOnly (m m′ : List ℕ) (j : ℕ) : Type 0 where
-  pub size : length m′ ≡ 1536
-  pub columns : (k f : ℕ) → k < 64 → f < 12 → at m′ k f ≡ at m k f
-  pub fairs : (k f : ℕ) → k < 64 → 18 ≤ f → f < 24 → at m′ k f ≡ at m k f
-  pub others : (k f : ℕ) → k < 64 → f < 24 → (k ≡ j → ⊥) → at m′ k f ≡ at m k f
 
 -- the pieces and times of leaf j, in which a packet waits, as they are after the calls
 pub record LeafTimed (m : List ℕ) (tree : Tree) (cs : List Call) (j : ℕ) : Type 0 where

@@ -1,4 +1,4 @@
--- What the choice reads off the table, and what a departure makes of the arrays: the small definitions that their inner promises cite.
+-- What a departure makes of the arrays: the small definitions that its inner promises cite.
 -- Assumes nothing.
 use Prim.Native.Nat.{ℕ, _+_, _≤_, _<_}
 use mathlib.Core.Path.{_≡_}
@@ -8,7 +8,6 @@ use lib.ListN.{length}
 use lib.Dec.{eqb}
 use Rattle.curve.specs.Curves.{Rising}
 use Rattle.tree.specs.declared.Tree.{Tree}
-use Rattle.tree.specs.Trees.{isLeaf, depth}
 use Rattle.rules.specs.declared.Rule.{Rule}
 use Rattle.rules.specs.declared.Rule.the-variants.{RealTime, Fair}
 use Rattle.rules.specs.declared.Times.{Times}
@@ -19,71 +18,13 @@ use Rattle.rules.specs.Calls.{Call, left, History}
 use Rattle.rules.specs.Queues.{headNumber, nextNumber}
 use Rattle.rules.specs.Leaves.{sentRealTime, DeadlineOf, EligibleOf}
 use Rattle.rules.specs.Classes.{active}
-use Rattle.rules.specs.Fair.{virtualTimeOf}
-use Rattle.rules.specs.Choice as by
-use Rattle.rules.specs.Choice.{First, Contends, RealTimeRule, ActiveChild, NothingWaits}
-use Rattle.rules.specs.Lawful.{Allowed, LawfulCalls, Grown, Lawful}
+use Rattle.rules.specs.Lawful.{Allowed, Lawful}
 use Rattle.rules.specs.Answers.{IsHead, withCall}
-use Rattle.sched.specs.declared.choice.Found.{Found}
-use Rattle.sched.specs.declared.choice.Choice.{Choice}
-use Rattle.sched.specs.Table.{at, with}
-use Rattle.sched.specs.Columns.{HEADER, COUNT, KIND, CAME, LEFT, BYTES-RT, ELIGIBLE, DEADLINE, ACTIVE, NEVER}
-use Rattle.sched.specs.State.{keptFor, hasTimes, activity, ShowsTree, ShowsLeaf, ShowsFair, ShowsSlots, Shows}
-use Rattle.sched.specs.Steps.{curveIn, keptIn, NarrowCurve, KeptSoon, RipeStored, DueStored, Planted}
+use Rattle.state.specs.Table.{at, with}
+use Rattle.state.specs.Columns.{KIND, CAME, LEFT, BYTES-RT, ELIGIBLE, DEADLINE, ACTIVE, NEVER}
+use Rattle.state.specs.State.{keptFor, hasTimes, activity, ShowsSlots, Shows}
+use Rattle.state.specs.Steps.{curveIn, keptIn, NarrowCurve, KeptSoon, RipeStored, DueStored, Planted}
 use Rattle.sched.specs.StepsArriving.{ShowsButClock}
-
--- the table tells of a tree and the calls so far: every column but the header's
-pub record Told (m : List ℕ) (tree : Tree) (cs : List Call) : Type 0 where
-  pub size : length m ≡ 1536
-  pub grown : Grown tree
-  pub lawful : LawfulCalls tree cs
-  pub count : at m COUNT HEADER ≡ tree .count
-  pub trees : (i : ℕ) → i < tree .count → ShowsTree m tree i
-  pub leaves : (i : ℕ) → i < tree .count → ShowsLeaf m tree cs i
-  pub fairs : (i : ℕ) → i < tree .count → ShowsFair m tree cs i
-  pub blank : (i f : ℕ) → tree .count ≤ i → i < 64 → 1 ≤ f → f < 24 → at m i f ≡ 0
-
-pub record Readable (m : List ℕ) : Type 0 where
-  pub tree : Tree
-  pub calls : List Call
-  pub told : Told m tree calls
-
--- the real-time rule's leaf, or nothing exactly where no leaf contends
-abbrev pub Soonest : Tree → List Call → ℕ → Found → Type 0
-Soonest tree cs tick (Found.At j) = RealTimeRule tree cs tick j
-Soonest tree cs tick Found.Nothing = (k d : ℕ) → Contends tree cs tick k d → ⊥
-
--- an active class with children: the fair rule goes to one of them
-pub record Stepping (m : List ℕ) (tree : Tree) (cs : List Call) (i : ℕ) : Type 0 where
-  pub told : Told m tree cs
-  pub class : i < tree .count
-  pub inner : isLeaf tree i ≡ false
-  pub isActive : active tree cs i ≡ true
-
-pub record Steppable (m : List ℕ) (i : ℕ) : Type 0 where
-  pub tree : Tree
-  pub calls : List Call
-  pub stepping : Stepping m tree calls i
-
-abbrev pub Lightest : Tree → List Call → ℕ → ℕ → Type 0
-Lightest tree cs i k = First (ActiveChild tree cs i) k (virtualTimeOf tree cs k)
-
--- an active class, and so many steps left that the deepest class is reached
-pub record Descending (m : List ℕ) (tree : Tree) (cs : List Call) (i steps : ℕ) : Type 0 where
-  pub told : Told m tree cs
-  pub class : i < tree .count
-  pub isActive : active tree cs i ≡ true
-  pub enough : 8 ≤ depth tree i + steps
-
-pub record Descendable (m : List ℕ) (i steps : ℕ) : Type 0 where
-  pub tree : Tree
-  pub calls : List Call
-  pub descending : Descending m tree calls i steps
-
--- what the rules choose, or nothing exactly where nothing waits
-abbrev pub Chosen : Tree → List Call → ℕ → Choice → Type 0
-Chosen tree cs tick (Choice.Leaf j r) = by.Choice tree cs tick j r
-Chosen tree cs tick Choice.Nothing = NothingWaits cs
 
 -- A departure. The head of leaf j leaves at tick t by rule r.
 

@@ -1,40 +1,40 @@
 // The scheduler. Its state is two arrays that the host lends and keeps: a table of words by columns, and
 // the lengths of the packets that wait. Every call changes them in place, and leaves them as they were
 // where it refuses.
-use crate::choice::Choice;
-use crate::choice::choose;
-use crate::fair::raise;
-use crate::fair::rest;
-use crate::fair::wake;
-use crate::leaf::add_piece;
-use crate::leaf::due;
-use crate::leaf::ripen;
-use crate::planting::clear_lengths;
-use crate::planting::clear_words;
-use crate::planting::link;
-use crate::planting::plant;
-use crate::table::BYTES;
-use crate::table::BYTES_RT;
-use crate::table::CAME;
-use crate::table::CHILD;
-use crate::table::COUNT;
-use crate::table::DEADLINE;
-use crate::table::ELIGIBLE;
-use crate::table::HEADER;
-use crate::table::KIND;
-use crate::table::LEFT;
-use crate::table::NEVER;
-use crate::table::STAMP;
-use crate::table::get;
-use crate::table::put;
-use crate::ticks::Moment;
-use crate::ticks::move_clock;
-use crate::ticks::tick;
 use rules::Arrival;
 use rules::Departure;
 use rules::Packet;
 use rules::Rule;
 use rules::Times;
+use state::choice::Choice;
+use state::choice::choose;
+use state::fair::raise;
+use state::fair::rest;
+use state::fair::wake;
+use state::leaf::add_piece;
+use state::leaf::due;
+use state::leaf::ripen;
+use state::planting::clear_lengths;
+use state::planting::clear_words;
+use state::planting::link;
+use state::planting::plant;
+use state::table::BYTES;
+use state::table::BYTES_RT;
+use state::table::CAME;
+use state::table::CHILD;
+use state::table::COUNT;
+use state::table::DEADLINE;
+use state::table::ELIGIBLE;
+use state::table::HEADER;
+use state::table::KIND;
+use state::table::LEFT;
+use state::table::NEVER;
+use state::table::STAMP;
+use state::table::get;
+use state::table::put;
+use state::ticks::Moment;
+use state::ticks::move_clock;
+use state::ticks::tick;
 use tree::Refusal;
 use tree::Tree;
 use tree::Verdict;
@@ -44,21 +44,14 @@ ghost use Prim.Native.Nat.{ℕ, _+_, _^_, _<_};
 ghost use Rattle.tree.specs.declared.Tree.{Tree};
 ghost use Rattle.rules.specs.Calls.{Call, came, left, History};
 ghost use Rattle.rules.specs.Lawful.{Allowed, Lawful};
-ghost use Rattle.sched.specs.Table.{at};
-ghost use Rattle.sched.specs.Columns as col;
-ghost use Rattle.sched.specs.State.{Shows, Reached};
+ghost use Rattle.state.specs.Table.{at};
+ghost use Rattle.state.specs.Columns as col;
+ghost use Rattle.state.specs.State.{Shows, Reached};
 ghost use Rattle.sched.specs.Promises.{StartRight, ArriveRight, DepartRight};
 ghost use Rattle.sched.specs.StepsArriving.{Shown, AdmissionRight, Beginnable, BeforeBegin, AfterTiming, AfterBegin, Acceptable, AcceptRight, Receivable, ReceiveRight, isAccepted};
 ghost use Rattle.sched.specs.StepsDeparting.{timesIn, counted, Timable, NextTimed, BeforeSettle, Settleable, AfterSettle, Takable, TakeRight};
 
-mod choice;
-mod fair;
-mod leaf;
-mod planting;
 pub mod readers;
-mod table;
-mod ticks;
-
 // Whether an arrival can be accepted.
 enum Admission {
     Open,

@@ -1,14 +1,14 @@
 // What a host may ask of a state. Nothing is changed.
-use crate::table::CAME;
-use crate::table::COUNT;
-use crate::table::DEADLINE;
-use crate::table::ELIGIBLE;
-use crate::table::HEADER;
-use crate::table::LEFT;
-use crate::table::NEVER;
-use crate::table::VIRTUAL;
-use crate::table::get;
 use rules::Times;
+use state::table::CAME;
+use state::table::COUNT;
+use state::table::DEADLINE;
+use state::table::ELIGIBLE;
+use state::table::HEADER;
+use state::table::LEFT;
+use state::table::NEVER;
+use state::table::VIRTUAL;
+use state::table::get;
 ghost use mathlib.Core.Path.{_≡_};
 ghost use lib.ListN.{length};
 ghost use Rattle.rules.specs.Calls.{History};
@@ -16,7 +16,7 @@ ghost use Rattle.rules.specs.Clock as clocks;
 ghost use Rattle.rules.specs.Queues.{queue};
 ghost use Rattle.rules.specs.Fair.{virtualTimeOf};
 ghost use Rattle.rules.specs.Lawful.{Lawful};
-ghost use Rattle.sched.specs.State.{Shows, Reached};
+ghost use Rattle.state.specs.State.{Shows, Reached};
 ghost use Rattle.sched.specs.Asked.{HeadTimes};
 
 // The clock.
@@ -24,7 +24,7 @@ pub fn clock(words: &[u64; 1536], lengths: &[u16; 4096]) -> u64
     requires { ⌜ Reached (now words) (now lengths) ⌝ }
     ensures { λ r. ⌜ ((h : History) → Lawful h → Shows (now (words .entry)) (now (lengths .entry)) h → r ≡ clocks.clock (h .calls)) ⌝ }
 {
-    get(words, crate::table::CLOCK, HEADER)
+    get(words, state::table::CLOCK, HEADER)
 }
 
 // How many packets wait in a class: none in a class with children, and none in a class that is not there.

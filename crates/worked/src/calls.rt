@@ -1,7 +1,7 @@
 // The three calls of the scheduler, each with its answer printed.
 use crate::show;
 use tree::Tree;
-ghost use Rattle.sched.specs.State.{Reached};
+ghost use Rattle.state.specs.State.{Reached};
 
 pub fn starts(tree: Tree, stamp: u32, words: &mut [u64; 1536], lengths: &mut [u16; 4096])
     ensures { λ r. ⌜ Reached (now (words .exit)) (now (lengths .exit)) ⌝ }

@@ -6,7 +6,7 @@ use crate::calls::virtual_times;
 use crate::show::text;
 use crate::trees;
 use curve::Curve;
-ghost use Rattle.sched.specs.State.{Reached};
+ghost use Rattle.state.specs.State.{Reached};
 
 pub fn run(words: &mut [u64; 1536], lengths: &mut [u16; 4096]) {
     same_deadline(words, lengths);

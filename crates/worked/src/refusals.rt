@@ -7,7 +7,7 @@ use crate::show::text;
 use crate::trees;
 use curve::Curve;
 use rules::Arrival;
-ghost use Rattle.sched.specs.State.{Reached};
+ghost use Rattle.state.specs.State.{Reached};
 
 pub fn run(words: &mut [u64; 1536], lengths: &mut [u16; 4096]) {
     leaves(words, lengths);

@@ -6,7 +6,7 @@ use crate::show::line;
 use crate::show::text;
 use crate::trees;
 use rules::Departure;
-ghost use Rattle.sched.specs.State.{Reached};
+ghost use Rattle.state.specs.State.{Reached};
 
 pub fn run(words: &mut [u64; 1536], lengths: &mut [u16; 4096]) {
     round(words, lengths);

@@ -12,7 +12,7 @@ use Rattle.rules.specs.Queues.{queue, nextNumber, accepted}
 use Rattle.rules.specs.Lawful.{Lawful, Allowed}
 use Rattle.rules.proofs.Trees.{leaf-class}
 use Rattle.rules.proofs.Sent.{accepted-most, number-below-accepted}
-use Rattle.sched.specs.State.{Shows}
+use Rattle.state.specs.State.{Shows}
 use Rattle.sched.specs.StepsArriving.{BeforeBegin, AfterBegin, AcceptRight}
 use Rattle.sched.proofs.Arriving.{class-narrow, waiting-shown, waits-none, waits-some, Counted, counted-by, before-begin, waited, shows-came}
 use Rattle.sched.proofs.accept.Statement.{statement}

@@ -15,9 +15,9 @@ use Rattle.rules.specs.Queues.{accepted}
 use Rattle.rules.specs.Lawful.{Lawful}
 use Rattle.rules.specs.Answers.{outcome, refused, passed}
 use Rattle.rules.proofs.Sent.{accepted-most}
-use Rattle.sched.specs.State.{Shows}
+use Rattle.state.specs.State.{Shows}
 use Rattle.sched.specs.StepsArriving.{leafChecks}
-use Rattle.sched.proofs.LeafCells.{weigh-small}
+use Rattle.state.proofs.LeafCells.{weigh-small}
 use Rattle.sched.proofs.Arriving.{no-such-leaf, too-short, too-long, leaf-full, bytes-decide, class-narrow, leaf-shown, interior-shown, absent-shown, waiting-shown}
 use Rattle.sched.proofs.admit.Statement.{statement}
 use Rattle.sched.proofs.admit.Tie as tie

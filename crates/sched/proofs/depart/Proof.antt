@@ -6,7 +6,7 @@ use Rattle.rules.specs.declared.Departure.the-variants.{Leaves, NoneWaits}
 use Rattle.rules.specs.Calls.{left, History}
 use Rattle.rules.specs.Lawful.{Timely, Allowed, Lawful}
 use Rattle.rules.specs.Answers.{outcome, passed, departureChecks, nextClock}
-use Rattle.sched.specs.State.{Shows}
+use Rattle.state.specs.State.{Shows}
 use Rattle.sched.specs.Promises.{DepartRight}
 use Rattle.sched.proofs.DepartingCall.{refused-right, tick-passes, tick-timely, shown-told, none-right, leaves-right, departs-reached}
 use Rattle.sched.proofs.Arriving.{clock-shown, stamp-shown}

@@ -5,7 +5,7 @@ use borrow.Author.Needs.{needs}
 use Rattle.rules.specs.Calls.{History, came}
 use Rattle.rules.specs.Lawful.{Lawful, Allowed}
 use Rattle.rules.specs.Answers.{passed, outcome}
-use Rattle.sched.specs.State.{Shows}
+use Rattle.state.specs.State.{Shows}
 use Rattle.sched.specs.StepsArriving.{AdmissionRight, leafChecks}
 use Rattle.sched.proofs.Arriving.{now-allowed}
 use Rattle.sched.proofs.receive.Statement.{statement}

@@ -9,9 +9,9 @@ use lib.ListN.{getD}
 use Rattle.tree.specs.declared.Tree.{Tree}
 use Rattle.rules.specs.Calls.{Call, left}
 use Rattle.rules.specs.Queues.{waits, headLength}
-use Rattle.sched.specs.Table.{at, with}
-use Rattle.sched.specs.Columns.{CAME, LEFT, ELIGIBLE, DEADLINE, NEVER}
-use Rattle.sched.specs.Steps.{BeforeRest, AfterRest}
+use Rattle.state.specs.Table.{at, with}
+use Rattle.state.specs.Columns.{CAME, LEFT, ELIGIBLE, DEADLINE, NEVER}
+use Rattle.state.specs.Steps.{BeforeRest, AfterRest}
 use Rattle.sched.specs.StepsDeparting.{BeforeSettle}
 use Rattle.sched.proofs.DepartingNext.{settle-class, next-waits, none-waits, next-length, next-short, next-timable, settled-next, settled-last, before-rest}
 use Rattle.sched.proofs.settle.Statement.{statement}

@@ -10,13 +10,13 @@ use Rattle.rules.specs.Calls.{left, History}
 use Rattle.rules.specs.Queues.{headLength}
 use Rattle.rules.specs.Lawful.{Allowed, Lawful}
 use Rattle.rules.specs.Answers.{TimesOf, withCall}
-use Rattle.sched.specs.Table.{at, with}
-use Rattle.sched.specs.Columns.{LEFT, BYTES-RT}
-use Rattle.sched.specs.State.{Shows}
-use Rattle.sched.specs.Steps.{BeforeRaise, AfterRaise}
+use Rattle.state.specs.Table.{at, with}
+use Rattle.state.specs.Columns.{LEFT, BYTES-RT}
+use Rattle.state.specs.State.{Shows}
+use Rattle.state.specs.Steps.{BeforeRaise, AfterRaise}
 use Rattle.sched.specs.StepsArriving.{ShowsButClock}
 use Rattle.sched.specs.StepsDeparting.{counted, BeforeSettle}
-use Rattle.sched.proofs.Cells.{at-with-column}
+use Rattle.state.proofs.Cells.{at-with-column}
 use Rattle.sched.proofs.DepartingTake.{take-class, take-below, take-length, take-short, take-number, take-bytes, take-times, before-raise, before-settle, take-shows}
 use borrow.Author.Needs.{needs}
 use Rattle.sched.proofs.take.Statement.{statement}

@@ -9,7 +9,7 @@ use Rattle.tree.specs.Trees.{curveOf}
 use Rattle.rules.specs.Calls.{Call}
 use Rattle.rules.specs.Choice.{hasCurve}
 use Rattle.sched.specs.StepsArriving.{BeforeBegin}
-use Rattle.sched.proofs.LeafCells.{only-none}
+use Rattle.state.proofs.LeafCells.{only-none}
 use Rattle.sched.proofs.ArrivingTimes.{begin-class, begin-curved, begin-bare, asked-curve, asked-soon, short, pieced-by, ripened-by, timed-by, timed-bare}
 use Rattle.sched.proofs.time_first.Statement.{statement}
 use Rattle.sched.proofs.time_first.Tie as tie

@@ -6,7 +6,7 @@ use mathlib.Core.Path.{_≡_, ap}
 use mathlib.Core.Logic.{⊎-elim}
 use lib.ListN.{length}
 use borrow.Author.Needs.{needs}
-use Rattle.sched.specs.State.{Reached}
+use Rattle.state.specs.State.{Reached}
 use Rattle.replay.proofs.turns.turns.Statement.{statement}
 use Rattle.replay.proofs.turns.turns.Tie as tie
 

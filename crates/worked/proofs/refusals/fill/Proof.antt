@@ -3,7 +3,7 @@ use Prim.Native.Nat.{_≤_, _-_}
 use mathlib.Core.Logic.{⊎-elim}
 use native.Mathlib.Omega.{arith}
 use borrow.Author.Needs.{needs}
-use Rattle.sched.specs.State.{Reached}
+use Rattle.state.specs.State.{Reached}
 use Rattle.worked.proofs.refusals.fill.Statement.{statement}
 use Rattle.worked.proofs.refusals.fill.Tie as tie
 

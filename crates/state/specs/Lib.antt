@@ -1,0 +1,10 @@
+-- The state's table, and what the arrays hold for a history.
+pub mod Table
+pub mod Columns
+pub mod State
+-- What the steps promise to the scheduler and one another: no host's promise cites these.
+pub mod Steps
+pub mod StepsResting
+pub mod StepsWaking
+pub mod Planting
+pub mod StepsChoosing
