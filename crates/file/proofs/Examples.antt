@@ -4,9 +4,9 @@ use Prim.Native.Nat.{ℕ, zero, suc, _<_}
 use mathlib.Core.Path.{_≡_, refl, sym}
 use native.Mathlib.Omega.{arith}
 use lib.Dec.{lit≤, lit<}
-use Rattle.curve.specs.Curves.{RightCurve}
 use Rattle.curve.specs.Fit.{sumOf}
 use Rattle.curve.specs.declared.Curve.the-variants.{Straight}
+use Rattle.curve.proofs.Laws.Limits.{straight-right}
 use Rattle.tree.specs.declared.Verdict.the-variants.{Right}
 use Rattle.tree.specs.Trees.{classAt, curvesOf, curvesFrom, curveBelow, SameTree}
 use Rattle.tree.specs.Rules.{RightTree}
@@ -35,10 +35,10 @@ unfolding smallestTree
 star-smallest = record { counts = refl; classes = star-class }
 
 smallest-right : RightTree smallestTree
-unfolding RightCurve sumOf curvesOf curvesFrom curveBelow classAt
+unfolding sumOf curvesOf curvesFrom curveBelow classAt
 smallest-right =
     same-right (star 1 (Straight 65536)) smallestTree star-smallest
-    (star-right 1 (Straight 65536) (lit< tt) (lit< tt) (record { above = lit≤ tt; below = lit≤ tt }) (lit≤ tt))
+    (star-right 1 (Straight 65536) (lit< tt) (lit< tt) (straight-right 65536 (record { above = lit≤ tt; below = lit≤ tt })) (lit≤ tt))
 
 says : (order : Order) → treeOf (fileIn order smallestTree) ≡ smallestTree
 unfolding fileIn fileWords numbered bodyWords bodyPlace curveBytes classAt smallestTree bytesOf wordBytes treeOf firstClasses fileClass rightKind bodyClass bodyBytes kindCurve offsetOf lengthOf orderOf wordAt

@@ -5,9 +5,9 @@ use mathlib.Core.Path.{_≡_, refl, ap, _∙_}
 use native.Mathlib.Omega.{arith}
 use lib.Dec.{lit≤, lit<}
 use lib.ListN.{length}
-use Rattle.curve.specs.Curves.{RightCurve}
 use Rattle.curve.specs.Fit.{sumOf}
 use Rattle.curve.specs.declared.Curve.the-variants.{FrontLoaded}
+use Rattle.curve.proofs.Laws.Limits.{front-right}
 use Rattle.tree.specs.declared.Tree.{Tree}
 use Rattle.tree.specs.Trees.{classAt, curveOf, curvesOf, curvesFrom, curveBelow}
 use Rattle.tree.specs.Rules.{RightClass, RightTree}
@@ -44,10 +44,10 @@ abbrev pub longest : Tree
 longest = star 63 (FrontLoaded 2 1 1)
 
 pub longest-right : RightTree longest
-unfolding RightCurve sumOf curvesOf curvesFrom curveBelow classAt
+unfolding sumOf curvesOf curvesFrom curveBelow classAt
 longest-right =
     star-right 63 (FrontLoaded 2 1 1) (lit< tt) (lit< tt)
-    (record { first = record { above = lit≤ tt; below = lit≤ tt }; bend = record { above = lit≤ tt; below = lit≤ tt }; last = record { above = lit≤ tt; below = lit≤ tt }; falls = lit< tt })
+    (front-right 2 1 1 (record { first = record { above = lit≤ tt; below = lit≤ tt }; bend = record { above = lit≤ tt; below = lit≤ tt }; last = record { above = lit≤ tt; below = lit≤ tt }; falls = lit< tt }))
     (lit≤ tt)
 
 longest-total : totalBytes longest ≡ mostFileBytes

@@ -10,9 +10,11 @@ use mathlib.Core.Bool.{Bool, true, false, _&&_}
 use mathlib.Core.List.{List, [], _∷_}
 use lib.Dec.{T, leb, ltb, leb→le, ltb→lt, lit≤}
 use lib.ListN.{length, getD}
-use Rattle.curve.specs.Curves.{amount, RightCurve}
+use Rattle.curve.specs.Curves.{amount}
 use Rattle.curve.specs.Pieces.{standing, EveryPiece}
-use Rattle.curve.specs.Fit.{sumOf, CurvesFit}
+use Rattle.curve.specs.Fit.{sumOf}
+use Rattle.curve.proofs.Laws.Limits.{front-right, delayed-right}
+use Rattle.curve.proofs.Laws.Fit.{fit-each, fit-at}
 use Rattle.tree.specs.Trees.{classAt, isChild, childBelow, hasChild, isLeaf, stepsUp, depth, curveBelow, curvesFrom, curvesOf, curveOf}
 use Rattle.rules.specs.declared.Rule.{Rule}
 use Rattle.rules.specs.declared.Rule.the-variants.{RealTime, Fair}
@@ -36,10 +38,10 @@ noRow = curves [] true
 -- Tree A is right.
 
 class-A : (i : ℕ) → i < 3 → RightClass (classAt treeA i) i
-unfolding RightClass classAt RightCurve
+unfolding RightClass classAt
 class-A zero h = record { parent = refl; share = refl; curve = refl }
-class-A (suc zero) h = record { parent = omega arith; share = omega arith; curve = record { first = omega arith; bend = omega arith; last = omega arith; falls = omega arith } }
-class-A (suc (suc zero)) h = record { parent = omega arith; share = omega arith; curve = record { bend = omega arith; rate = omega arith } }
+class-A (suc zero) h = record { parent = omega arith; share = omega arith; curve = front-right _ _ _ (record { first = omega arith; bend = omega arith; last = omega arith; falls = omega arith }) }
+class-A (suc (suc zero)) h = record { parent = omega arith; share = omega arith; curve = delayed-right _ _ (record { bend = omega arith; rate = omega arith }) }
 class-A (suc (suc (suc i))) h = absurd (omega arith)
 
 depth-A : (i : ℕ) → i < 3 → depth treeA i ≤ 8
@@ -57,8 +59,8 @@ place-A (suc (suc zero)) h e = never e refl
 place-A (suc (suc (suc i))) h e = absurd (omega arith)
 
 pub right-A : RightTree treeA
-unfolding CurvesFit sumOf curvesOf curvesFrom curveBelow classAt amount
-right-A = record { count = omega arith; bodies = class-A; depths = depth-A; places = place-A; fit = λ t. omega arith }
+unfolding sumOf curvesOf curvesFrom curveBelow classAt amount
+right-A = record { count = omega arith; bodies = class-A; depths = depth-A; places = place-A; fit = fit-each (curvesOf treeA) (λ t. omega arith) }
 
 -- Arrivals: every check is a test on numbers.
 
@@ -269,17 +271,17 @@ unfolding classAt isChild weigh queue anyOf largestOf smallestOf isMet sent acti
 row-8 = (history _ (arrival _ 2000 1 500 refl tt tt (arrival _ 2000 2 500 refl tt tt lawful-both)), (refl, (refl, tt)))
 
 pub row-9 : RowHolds (getD rows 8 noRow)
-unfolding CurvesFit sumOf amount
-row-9 t = omega arith
+unfolding sumOf amount
+row-9 = fit-each _ (λ t. omega arith)
 
 pub row-10 : RowHolds (getD rows 9 noRow)
-unfolding CurvesFit sumOf amount
-row-10 fit = omega (arith, fit 1)
+unfolding sumOf amount
+row-10 fit = omega (arith, fit-at _ fit 1)
 
 pub row-11 : RowHolds (getD rows 10 noRow)
-unfolding CurvesFit sumOf amount
-row-11 t = omega arith
+unfolding sumOf amount
+row-11 = fit-each _ (λ t. omega arith)
 
 pub row-12 : RowHolds (getD rows 11 noRow)
-unfolding CurvesFit sumOf amount
-row-12 fit = omega (arith, fit 1)
+unfolding sumOf amount
+row-12 fit = omega (arith, fit-at _ fit 1)

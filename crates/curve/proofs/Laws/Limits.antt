@@ -7,10 +7,22 @@ use Rattle.curve.specs.Curves.{Within, RightRate, RightBend, RightFront,
 use Rattle.curve.specs.declared.Curve.{Curve}
 use Rattle.curve.specs.declared.Curve.the-variants.{None, Straight, FrontLoaded, Delayed}
 
--- what a right curve of each kind is
+-- a right curve of each kind
 pub none-right : RightCurve None
 unfolding RightCurve
 none-right = tt
+
+pub straight-right : (m : ℕ) → RightRate m → RightCurve (Straight m)
+unfolding RightCurve
+straight-right m r = r
+
+pub front-right : (m₁ d m₂ : ℕ) → RightFront m₁ d m₂ → RightCurve (FrontLoaded m₁ d m₂)
+unfolding RightCurve
+front-right m₁ d m₂ r = r
+
+pub delayed-right : (d m : ℕ) → RightDelay d m → RightCurve (Delayed d m)
+unfolding RightCurve
+delayed-right d m r = r
 
 pub straight-limits : (m : ℕ) → RightCurve (Straight m) → RightRate m
 unfolding RightCurve

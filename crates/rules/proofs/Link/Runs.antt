@@ -8,11 +8,13 @@ use mathlib.Core.Logic.{⊎-elim}
 use native.Mathlib.Omega.{arith}
 use lib.Dec.{lit≤}
 use lib.ListN.{drop}
-use Rattle.curve.specs.Curves.{amount, RightCurve}
+use Rattle.curve.specs.Curves.{amount}
 use Rattle.curve.specs.Pieces.{standing}
-use Rattle.curve.specs.Fit.{sumOf, CurvesFit}
+use Rattle.curve.specs.Fit.{sumOf}
 use Rattle.curve.specs.declared.Curve.the-variants.{None}
 use Rattle.curve.proofs.Laws.Order.{le-or-lt}
+use Rattle.curve.proofs.Laws.Limits.{none-right, straight-right}
+use Rattle.curve.proofs.Laws.Fit.{fit-each}
 use Rattle.tree.specs.declared.Tree.{Tree}
 use Rattle.tree.specs.Trees.{classAt, curveOf, isChild, childBelow, hasChild, isLeaf, stepsUp, depth, curveBelow, curvesFrom, curvesOf}
 use Rattle.tree.specs.Rules.{RightClass}
@@ -92,10 +94,10 @@ last-A = premises-A 2 2 3 700 8500 (head-told treeA (drop 2 runA) 2 8500 refl re
 -- The late tree is right.
 
 late-class : (i : ℕ) → i < 3 → RightClass (classAt lateTree i) i
-unfolding RightClass classAt RightCurve
+unfolding RightClass classAt
 late-class zero h = record { parent = refl; share = refl; curve = refl }
-late-class (suc zero) h = record { parent = omega arith; share = omega arith; curve = tt }
-late-class (suc (suc zero)) h = record { parent = omega arith; share = omega arith; curve = omega arith }
+late-class (suc zero) h = record { parent = omega arith; share = omega arith; curve = none-right }
+late-class (suc (suc zero)) h = record { parent = omega arith; share = omega arith; curve = straight-right _ (omega arith) }
 late-class (suc (suc (suc i))) h = absurd (omega arith)
 
 late-depth : (i : ℕ) → i < 3 → depth lateTree i ≤ 8
@@ -113,9 +115,9 @@ late-place (suc (suc zero)) h e = never e refl
 late-place (suc (suc (suc i))) h e = absurd (omega arith)
 
 late-grown : Grown lateTree
-unfolding CurvesFit sumOf curvesOf curvesFrom curveBelow classAt amount
+unfolding sumOf curvesOf curvesFrom curveBelow classAt amount
 late-grown =
-    right (record { count = omega arith; bodies = late-class; depths = late-depth; places = late-place; fit = λ t. omega arith })
+    right (record { count = omega arith; bodies = late-class; depths = late-depth; places = late-place; fit = fit-each (curvesOf lateTree) (λ t. omega arith) })
 
 late-lawful : LawfulCalls lateTree lateRun
 unfolding lawful every classAt isChild childBelow hasChild isLeaf clock queue accepted weigh sentRealTime pieces standing amount anyOf largestOf smallestOf isMet sent active roundedUp virtualTime isOther meeting fairPieces

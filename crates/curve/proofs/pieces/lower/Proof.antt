@@ -1,7 +1,7 @@
 -- `curve::pieces::lower` meets its contract: the new piece's line is lower where the old one has had the ticks to rise as far as the new one starts higher.
 -- Assumes nothing.
 use native.Mathlib.Omega.{arith}
-use Rattle.curve.specs.Curves.{Rising}
+use Rattle.curve.proofs.Laws.Limits.{straight-rising}
 use Rattle.curve.proofs.Laws.Pieces.{lower-new, lower-old}
 use borrow.Author.Needs.{needs}
 use Rattle.curve.proofs.pieces.lower.Statement.{statement}
@@ -14,8 +14,7 @@ mul-rise : tie.Need-mul-rise
 mul-rise c = search needs
 
 earliest-requires : tie.Need-earliest-requires
-unfolding Rising
-earliest-requires c κs = (c .before .pre .0, omega (arith, c .less .ensures))
+earliest-requires c κs = (straight-rising _ (c .before .pre .0), omega (arith, c .less .ensures))
 
 less-requires-2 : tie.Need-less-requires-2
 less-requires-2 c κs = search needs
