@@ -46,34 +46,31 @@ static void departs(void) {
 
 /* All leaves beneath the last of the classes up to `above`. */
 static void grow(struct tree *tree, uint32_t above, uint32_t leaves) {
-    uint32_t unit = 32768 / (leaves + 1), bend = 2000 * (leaves + 1);
+    uint32_t rate = 32768 / (leaves + 1), bend = 2000 * (leaves + 1);
+    const struct curve curves[] = {{FRONT_LOADED, 2 * rate, bend, rate}, {DELAYED, 2 * rate, bend, 0}, {NONE, 0, 0, 0}, {STRAIGHT, rate, 0, 0}};
     memset(tree, 0, sizeof *tree);
     tree->count = above + 1 + leaves;
-    tree->class[0].share = 65536;
-    for (uint32_t i = 1; i <= above; i++) {
-        tree->class[i].parent = i - 1;
+    for (uint32_t i = 0; i <= above; i++) {
+        tree->class[i].parent = i ? i - 1 : 0;
         tree->class[i].share = 65536;
     }
     for (uint32_t leaf = 0; leaf < leaves; leaf++) {
-        const struct curve curves[] = {
-            {STRAIGHT, unit, 0, 0}, {FRONT_LOADED, 2 * unit, bend, unit}, {DELAYED, 2 * unit, bend, 0}, {NONE, 0, 0, 0}};
         tree->class[above + 1 + leaf].parent = above;
-        tree->class[above + 1 + leaf].share = unit * (1 + leaf % 3);
+        tree->class[above + 1 + leaf].share = 1024 + 64 * leaf;
         tree->class[above + 1 + leaf].curve = curves[leaf % 4];
     }
 }
 
+/* Bursts of 20 packets: all of one have left before the next comes. */
 static void bursts(uint32_t above, uint32_t leaves, uint32_t pairs) {
-    while (pairs) {
-        uint32_t size = 1 + (seed >> 26);
-        if (size > pairs) size = pairs;
-        for (uint32_t i = 0; i < size; i++) arrives(above + 1 + (seed >> 16) * leaves / 65536, seed % 1024);
-        for (uint32_t i = 0; i < size; i++) departs();
-        pairs -= size;
+    for (uint32_t burst = 0; burst < pairs / 20; burst++) {
+        for (int i = 0; i < 20; i++) arrives(above + 1 + (seed >> 16) * leaves / 65536, seed % 1024);
+        for (int i = 0; i < 20; i++) departs();
     }
 }
 
-static void waiting(uint32_t above, uint32_t leaves, uint32_t pairs) {
+/* Two packets for each leaf, then after each departure one for the same leaf: each always has some. */
+static void refills(uint32_t above, uint32_t leaves, uint32_t pairs) {
     for (int twice = 0; twice < 2; twice++)
         for (uint32_t i = 0; i < leaves; i++) arrives(above + 1 + i, 0);
     while (pairs--) {
@@ -82,24 +79,19 @@ static void waiting(uint32_t above, uint32_t leaves, uint32_t pairs) {
     }
 }
 
-static uint32_t number(int argc, char **argv, int at, uint32_t otherwise) {
-    return at < argc ? strtoul(argv[at], NULL, 10) : otherwise;
-}
-
 int main(int argc, char **argv) {
-    if (argc < 5) {
-        fprintf(stderr, "usage: %s flat|deep LEAVES bursty|waiting CALLS [ROUNDS [SEED]]\n", argv[0]);
+    if (argc != 6) {
+        fprintf(stderr, "usage: %s flat|deep LEAVES bursty|waiting CALLS SEED\n", argv[0]);
         return 2;
     }
-    uint32_t above = strcmp(argv[1], "deep") ? 0 : 7, leaves = number(argc, argv, 2, 0);
-    uint32_t calls = number(argc, argv, 4, 0), rounds = number(argc, argv, 5, 1);
+    uint32_t above = strcmp(argv[1], "deep") ? 0 : 7, leaves = atoi(argv[2]), pairs = atoi(argv[4]) / 2;
     struct tree tree;
-    seed = number(argc, argv, 6, 1);
-    while (rounds--) {
-        grow(&tree, above, leaves);
-        if (hfsc_start(&s, &tree, stamp)) return 1;
-        (strcmp(argv[3], "waiting") ? bursts : waiting)(above, leaves, calls / 2);
-    }
+    seed = atoi(argv[5]);
+    if (leaves > 63 - above) return 2;
+    grow(&tree, above, leaves);
+    if (hfsc_start(&s, &tree, 0)) return 1;
+    if (strcmp(argv[3], "waiting")) bursts(above, leaves, pairs);
+    else refills(above, leaves, pairs);
     printf("left %" PRIu64 " sums %" PRIu64 " %" PRIu64 "\n", left, sum, mix);
     return 0;
 }

@@ -2,56 +2,27 @@
 use curve::Curve;
 use tree::Class;
 use tree::Tree;
-ghost use Prim.Native.Nat.{_≤_};
 
-// A rate: half of what one of so many leaves would have of the link.
-fn unit_of(leaves: u8) -> u32
-    ensures { λ r. ⌜ r ≤ 32768 ⌝ }
-{
-    32768 / (leaves as u32 + 1)
-}
-
-// Straight, front-loaded, delayed and none in turn: together they promise about half of the link.
+// Front-loaded, delayed, none and straight in turn: together they promise about half of the link. The
+// remainder changes nothing: it says how large the rate can be.
 fn leaf_curve(leaf: u8, leaves: u8) -> Curve {
-    let unit = unit_of(leaves);
+    let last = 32768 / (leaves as u32 + 1) % 65536;
+    let first = 2 * last;
     let bend = 2000 * (leaves as u32 + 1);
     match leaf % 4 {
-        0 => Curve::Straight { rate: unit },
-        1 => Curve::FrontLoaded {
-            first: 2 * unit,
-            bend,
-            last: unit,
-        },
-        2 => Curve::Delayed {
-            bend,
-            rate: 2 * unit,
-        },
-        _ => Curve::None,
-    }
-}
-
-// Shares of three sizes.
-fn leaf_share(leaf: u8, leaves: u8) -> u32 {
-    let unit = unit_of(leaves);
-    match leaf % 3 {
-        0 => unit,
-        1 => 2 * unit,
-        _ => 3 * unit,
+        0 => Curve::FrontLoaded { first, bend, last },
+        1 => Curve::Delayed { bend, rate: first },
+        2 => Curve::None,
+        _ => Curve::Straight { rate: last },
     }
 }
 
 // The classes up to `above` are each the parent of the next, and the last of them that of all leaves.
 fn class_at(number: u8, above: u8, leaves: u8) -> Class {
-    if number == 0 {
-        return Class {
-            parent: 0,
-            share: 65536,
-            curve: Curve::None,
-        };
-    }
     if number <= above {
+        let parent = if number == 0 { 0 } else { number - 1 };
         return Class {
-            parent: number as u32 - 1,
+            parent: parent as u32,
             share: 65536,
             curve: Curve::None,
         };
@@ -59,7 +30,7 @@ fn class_at(number: u8, above: u8, leaves: u8) -> Class {
     let leaf = number - above - 1;
     Class {
         parent: above as u32,
-        share: leaf_share(leaf, leaves),
+        share: 1024 + 64 * leaf as u32,
         curve: leaf_curve(leaf, leaves),
     }
 }

@@ -1,29 +1,27 @@
--- `bench::drive::bursts` leaves a reached state: every burst does. Assumes nothing.
+-- `bench::drive::bursts` is safe: every burst leaves a reached state. Assumes nothing.
+use Prim.Native.Nat.{_≤_, _-_}
 use borrow.Author.Needs.{needs}
 use Rattle.sched.specs.State.{Reached}
 use Rattle.bench.proofs.drive.bursts.Statement.{statement}
 use Rattle.bench.proofs.drive.bursts.Tie as tie
 
 abbrev Inv-loop : tie.InvT-loop
-Inv-loop words₀ lengths₀ above leaves pairs then₀ rest₀ words lengths then rest = Reached words lengths
+Inv-loop words₀ lengths₀ pairs then₀ -i₀ -i-end words lengths then -i = Reached words lengths × (-i ≤ -i-end)
 
 abbrev μ-loop : tie.MeasureT-loop
-μ-loop words₀ lengths₀ above leaves pairs then₀ rest₀ words lengths then rest = rest
+μ-loop words₀ lengths₀ pairs then₀ -i₀ -i-end words lengths then -i = -i-end - -i
 
 loop-holds : tie.Need-loop-holds Inv-loop μ-loop
 loop-holds c = search needs
 
-burst-size-requires : tie.Need-burst-size-requires Inv-loop μ-loop
-burst-size-requires c κs = search needs
+twenty-requires : tie.Need-twenty-requires Inv-loop μ-loop
+twenty-requires c κs = search needs
 
-fill-requires : tie.Need-fill-requires Inv-loop μ-loop
-fill-requires c κs = search needs
+twenty-requires-2 : tie.Need-twenty-requires-2 Inv-loop μ-loop
+twenty-requires-2 c κs = search needs
 
-drain-requires : tie.Need-drain-requires Inv-loop μ-loop
-drain-requires c κs = search needs
-
-sub-rest : tie.Need-sub-rest Inv-loop μ-loop
-sub-rest c = search needs
+add--i : tie.Need-add--i Inv-loop μ-loop
+add--i c = search needs
 
 loop-less : tie.Need-loop-less Inv-loop μ-loop
 loop-less c = search needs
@@ -41,10 +39,9 @@ bursts-spec =
     Inv-loop
     μ-loop
     loop-holds
-    burst-size-requires
-    fill-requires
-    drain-requires
-    sub-rest
+    twenty-requires
+    twenty-requires-2
+    add--i
     loop-less
     loop-again
     returns)

@@ -1,4 +1,4 @@
--- `bench::drive::refills` leaves a reached state: every call does. Assumes nothing.
+-- `bench::drive::refills` is safe: every call leaves a reached state. Assumes nothing.
 use Prim.Native.Nat.{_≤_, _-_}
 use borrow.Author.Needs.{needs}
 use Rattle.sched.specs.State.{Reached}

@@ -1,30 +1,28 @@
--- `bench::drive::fill` leaves a reached state: every arrival does. Assumes nothing.
+-- `bench::drive::twenty` leaves a reached state: every call does. Assumes nothing.
 use Prim.Native.Nat.{_≤_, _-_}
+use mathlib.Core.Logic.{⊎-elim}
 use borrow.Author.Needs.{needs}
 use Rattle.sched.specs.State.{Reached}
-use Rattle.bench.proofs.drive.fill.Statement.{statement}
-use Rattle.bench.proofs.drive.fill.Tie as tie
+use Rattle.bench.proofs.drive.twenty.Statement.{statement}
+use Rattle.bench.proofs.drive.twenty.Tie as tie
 
 abbrev Inv-loop : tie.InvT-loop
-Inv-loop words₀ lengths₀ above leaves size then₀ -i₀ words lengths then -i = Reached words lengths × (-i ≤ size)
+Inv-loop words₀ lengths₀ arriving then₀ -i₀ words lengths then -i = Reached words lengths × (-i ≤ 20)
 
 abbrev μ-loop : tie.MeasureT-loop
-μ-loop words₀ lengths₀ above leaves size then₀ -i₀ words lengths then -i = size - -i
+μ-loop words₀ lengths₀ arriving then₀ -i₀ words lengths then -i = 20 - -i
 
 loop-holds : tie.Need-loop-holds Inv-loop μ-loop
 loop-holds c = search needs
 
-add-class : tie.Need-add-class Inv-loop μ-loop
-add-class c = search needs
-
 any-leaf-requires : tie.Need-any-leaf-requires Inv-loop μ-loop
 any-leaf-requires c κs = search needs
 
-add-class-2 : tie.Need-add-class-2 Inv-loop μ-loop
-add-class-2 c = search needs
-
 arrives-requires : tie.Need-arrives-requires Inv-loop μ-loop
 arrives-requires c κs = search needs
+
+departs-requires : tie.Need-departs-requires Inv-loop μ-loop
+departs-requires c κs = search needs
 
 add--i : tie.Need-add--i Inv-loop μ-loop
 add--i c = search needs
@@ -33,22 +31,24 @@ loop-less : tie.Need-loop-less Inv-loop μ-loop
 loop-less c = search needs
 
 loop-again : tie.Need-loop-again Inv-loop μ-loop
-loop-again c = search needs
+loop-again c = (
+  ⊎-elim (λ w. rw (w .6, w .7) (w .5 .ensures)) (λ w. rw (w .4, w .5) (w .3 .ensures)) (c .if1 .came),
+  search needs,
+)
 
 returns : tie.Need-returns Inv-loop μ-loop
 returns c = search needs
 
-pub fill-spec : {M : Type 1} → statement M
-fill-spec =
+pub twenty-spec : {M : Type 1} → statement M
+twenty-spec =
     tie.close
     (tie.spec
     Inv-loop
     μ-loop
     loop-holds
-    add-class
     any-leaf-requires
-    add-class-2
     arrives-requires
+    departs-requires
     add--i
     loop-less
     loop-again

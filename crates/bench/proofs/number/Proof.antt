@@ -1,8 +1,8 @@
--- `bench::args::number` is safe: `i` stays below the length. Assumes nothing.
+-- `bench::number` is safe: `i` stays below the length. Assumes nothing.
 use Prim.Native.Nat.{_≤_, _-_}
 use borrow.Author.Needs.{needs}
-use Rattle.bench.proofs.args.number.Statement.{statement}
-use Rattle.bench.proofs.args.number.Tie as tie
+use Rattle.bench.proofs.number.Statement.{statement}
+use Rattle.bench.proofs.number.Tie as tie
 
 abbrev Inv-loop : tie.InvT-loop
 Inv-loop text value₀ i₀ i-end value i = i ≤ i-end
@@ -13,11 +13,17 @@ abbrev μ-loop : tie.MeasureT-loop
 loop-holds : tie.Need-loop-holds Inv-loop μ-loop
 loop-holds c = search needs
 
-shared-slice-read-with-digit : tie.Need-shared-slice-read-with-digit Inv-loop μ-loop
-shared-slice-read-with-digit c = search needs
+mul-value : tie.Need-mul-value Inv-loop μ-loop
+mul-value c = search needs
 
-with-digit-requires : tie.Need-with-digit-requires Inv-loop μ-loop
-with-digit-requires c κs = search needs
+shared-slice-read-value : tie.Need-shared-slice-read-value Inv-loop μ-loop
+shared-slice-read-value c = search needs
+
+cast-value : tie.Need-cast-value Inv-loop μ-loop
+cast-value c = search needs
+
+add-value : tie.Need-add-value Inv-loop μ-loop
+add-value c = search needs
 
 add-i : tie.Need-add-i Inv-loop μ-loop
 add-i c = search needs
@@ -38,8 +44,10 @@ number-spec =
     Inv-loop
     μ-loop
     loop-holds
-    shared-slice-read-with-digit
-    with-digit-requires
+    mul-value
+    shared-slice-read-value
+    cast-value
+    add-value
     add-i
     loop-less
     loop-again
