@@ -1,0 +1,97 @@
+/* The calls of crates/bench over again: the same trees, the same generator, the same line printed. */
+#include "hfsc.h"
+
+#include <inttypes.h>
+#include <stdio.h>
+#include <stdlib.h>
+#include <string.h>
+
+#define REFUSED (UINT64_C(1) << 32)
+
+static struct hfsc s;
+static uint32_t seed, stamp, last_class, last_length;
+static uint64_t left, sum, mix;
+
+static void note(uint64_t number) {
+    sum += number;
+    mix += sum;
+}
+
+static void arrives(uint32_t class, uint32_t pause) {
+    uint64_t number;
+    seed = seed * 1664525 + 1013904223;
+    stamp += pause;
+    int refusal = hfsc_arrive(&s, stamp, class, 1 + (seed >> 16) * 1500 / 65536, &number);
+    note(refusal ? REFUSED : number);
+}
+
+static void departs(void) {
+    struct packet p;
+    stamp += last_length;
+    if (hfsc_depart(&s, stamp, &p)) {
+        note(REFUSED);
+        return;
+    }
+    note(p.class);
+    note(p.number);
+    last_class = p.class;
+    last_length = p.length;
+    left++;
+    if (p.real_time) note(1);
+    if (p.timed) {
+        note(p.eligible);
+        note(p.deadline);
+    }
+}
+
+/* All leaves beneath the last of the classes up to `above`. */
+static void grow(struct tree *tree, uint32_t above, uint32_t leaves) {
+    uint32_t rate = 32768 / (leaves + 1), bend = 2000 * (leaves + 1);
+    const struct curve curves[] = {{FRONT_LOADED, 2 * rate, bend, rate}, {DELAYED, 2 * rate, bend, 0}, {NONE, 0, 0, 0}, {STRAIGHT, rate, 0, 0}};
+    memset(tree, 0, sizeof *tree);
+    tree->count = above + 1 + leaves;
+    for (uint32_t i = 0; i <= above; i++) {
+        tree->class[i].parent = i ? i - 1 : 0;
+        tree->class[i].share = 65536;
+    }
+    for (uint32_t leaf = 0; leaf < leaves; leaf++) {
+        tree->class[above + 1 + leaf].parent = above;
+        tree->class[above + 1 + leaf].share = 1024 + 64 * leaf;
+        tree->class[above + 1 + leaf].curve = curves[leaf % 4];
+    }
+}
+
+/* Bursts of 20 packets: all of one have left before the next comes. */
+static void bursts(uint32_t above, uint32_t leaves, uint32_t pairs) {
+    for (uint32_t burst = 0; burst < pairs / 20; burst++) {
+        for (int i = 0; i < 20; i++) arrives(above + 1 + (seed >> 16) * leaves / 65536, seed % 1024);
+        for (int i = 0; i < 20; i++) departs();
+    }
+}
+
+/* Two packets for each leaf, then after each departure one for the same leaf: each always has some. */
+static void refills(uint32_t above, uint32_t leaves, uint32_t pairs) {
+    for (int twice = 0; twice < 2; twice++)
+        for (uint32_t i = 0; i < leaves; i++) arrives(above + 1 + i, 0);
+    while (pairs--) {
+        departs();
+        arrives(last_class, 0);
+    }
+}
+
+int main(int argc, char **argv) {
+    if (argc != 6) {
+        fprintf(stderr, "usage: %s flat|deep LEAVES bursty|waiting CALLS SEED\n", argv[0]);
+        return 2;
+    }
+    uint32_t above = strcmp(argv[1], "deep") ? 0 : 7, leaves = atoi(argv[2]), pairs = atoi(argv[4]) / 2;
+    struct tree tree;
+    seed = atoi(argv[5]);
+    if (leaves > 63 - above) return 2;
+    grow(&tree, above, leaves);
+    if (hfsc_start(&s, &tree, 0)) return 1;
+    if (strcmp(argv[3], "waiting")) bursts(above, leaves, pairs);
+    else refills(above, leaves, pairs);
+    printf("left %" PRIu64 " sums %" PRIu64 " %" PRIu64 "\n", left, sum, mix);
+    return 0;
+}
