@@ -44,3 +44,11 @@ fn the_studio() {
     let refused = ["cut", "share", "fit"].map(|what| read(&bytes(&format!("../examples/damaged-{what}.tree"))).unwrap_err());
     assert_eq!(refused, [refusal(5, 0), refusal(7, 4), refusal(10, 0)]);
 }
+
+/// The gate runs the program on copies, since it follows no links out of a crate.
+#[test]
+fn the_gates_copies_of_the_studio() {
+    assert_eq!(bytes("../crates/replay/data/studio.tree"), bytes("../examples/studio.tree"));
+    assert_eq!(bytes("../crates/replay/data/studio.calls"), bytes("../examples/studio.calls"));
+    assert_eq!(bytes("../crates/replay/stdout"), bytes("../examples/studio.out"));
+}

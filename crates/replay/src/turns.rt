@@ -77,10 +77,10 @@ fn line_end(text: &[u8], from: usize, end: usize) -> usize
     i
 }
 
-// Moves the text between to the front, reads more behind it, and gives where it ends: 0 where there is no more. A last
-// line that has no end is given one.
+// Moves the text between to the front, reads more into the room behind it, and gives where the text ends: 0 where there
+// is no more. A last line that has no end is given one.
 fn refill(fd: i32, name: &[u8], text: &mut [u8], from: usize, end: usize) -> usize
-    requires { ⌜ (from ≤ end) × (end ≤ length (now text)) ⌝ }
+    requires { ⌜ (from ≤ end) × (end ≤ length (now text)) × (end - from < length (now text)) ⌝ }
     ensures { λ r. ⌜ r ≤ length (now (text .exit)) ⌝ }
 {
     let kept = keep(text, from, end);
@@ -114,14 +114,12 @@ fn keep(text: &mut [u8], from: usize, end: usize) -> usize
 
 // The end of a last line that has none.
 fn finish(text: &mut [u8], kept: usize) -> usize
+    requires { ⌜ kept < length (now text) ⌝ }
     ensures { λ r. ⌜ r ≤ length (now (text .exit)) ⌝ }
 {
     if kept == 0 {
         return 0;
     }
-    if kept < text.len() {
-        text[kept] = b'\n';
-        return kept + 1;
-    }
-    0
+    text[kept] = b'\n';
+    kept + 1
 }

@@ -21,9 +21,6 @@ same-length c = search needs
 returns-2 : tie.Need-returns-2
 returns-2 c = simp length-set (omega arith)
 
-returns-3 : tie.Need-returns-3
-returns-3 c = search needs
-
 pub finish-spec : {M : Type 1} → statement M
 finish-spec =
-    tie.close (tie.spec returns slice-write-text add-result same-length returns-2 returns-3)
+    tie.close (tie.spec returns slice-write-text add-result same-length returns-2)
