@@ -12,9 +12,9 @@ use lib.Dec.{T, leb, ltb, leb→le, ltb→lt, lit≤}
 use lib.ListN.{length, getD}
 use Rattle.curve.specs.Curves.{amount}
 use Rattle.curve.specs.Pieces.{standing, EveryPiece}
-use Rattle.curve.specs.Fit.{sumOf}
+use Rattle.curve.specs.Fit.{sumOf, CurvesFit}
 use Rattle.curve.proofs.Laws.Limits.{front-right, delayed-right}
-use Rattle.curve.proofs.Laws.Fit.{fit-each, fit-at}
+use Rattle.curve.proofs.Laws.Fit.{fit-each}
 use Rattle.tree.specs.Trees.{classAt, isChild, childBelow, hasChild, isLeaf, stepsUp, depth, curveBelow, curvesFrom, curvesOf, curveOf}
 use Rattle.rules.specs.declared.Rule.{Rule}
 use Rattle.rules.specs.declared.Rule.the-variants.{RealTime, Fair}
@@ -271,17 +271,17 @@ unfolding classAt isChild weigh queue anyOf largestOf smallestOf isMet sent acti
 row-8 = (history _ (arrival _ 2000 1 500 refl tt tt (arrival _ 2000 2 500 refl tt tt lawful-both)), (refl, (refl, tt)))
 
 pub row-9 : RowHolds (getD rows 8 noRow)
-unfolding sumOf amount
-row-9 = fit-each _ (λ t. omega arith)
+unfolding CurvesFit sumOf amount
+row-9 t = omega arith
 
 pub row-10 : RowHolds (getD rows 9 noRow)
-unfolding sumOf amount
-row-10 fit = omega (arith, fit-at _ fit 1)
+unfolding CurvesFit sumOf amount
+row-10 fit = omega (arith, fit 1)
 
 pub row-11 : RowHolds (getD rows 10 noRow)
-unfolding sumOf amount
-row-11 = fit-each _ (λ t. omega arith)
+unfolding CurvesFit sumOf amount
+row-11 t = omega arith
 
 pub row-12 : RowHolds (getD rows 11 noRow)
-unfolding sumOf amount
-row-12 fit = omega (arith, fit-at _ fit 1)
+unfolding CurvesFit sumOf amount
+row-12 fit = omega (arith, fit 1)
