@@ -4,7 +4,6 @@ use tree::Class;
 use tree::Tree;
 ghost use mathlib.Core.Path.{_≡_};
 ghost use Prim.Native.Nat.{_+_, _<_, _^_};
-ghost use Rattle.tree.specs.Trees.{noClass};
 ghost use Rattle.file.specs.Format.{kindCurve};
 ghost use Rattle.host.specs.Words.{wordAt, classFrom, treeSaid};
 
@@ -13,17 +12,6 @@ fn word(tree: &[u32], at: usize) -> u32
     ensures { λ r. ⌜ r ≡ wordAt (now (tree .entry)) at ⌝ }
 {
     if at < tree.len() { tree[at] } else { 0 }
-}
-
-// What stands where no class is.
-fn no_class() -> Class
-    ensures { λ r. ⌜ r ≡ noClass ⌝ }
-{
-    Class {
-        parent: 0,
-        share: 0,
-        curve: Curve::None,
-    }
 }
 
 // The curve of a kind, with its numbers.
@@ -49,7 +37,7 @@ fn class_of(tree: &[u32], at: usize) -> Class
 {
     let kind = word(tree, at + 2);
     if 4 <= kind {
-        return no_class();
+        return tree::no_class();
     }
     let parent = word(tree, at);
     let share = word(tree, at + 1);

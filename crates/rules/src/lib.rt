@@ -5,6 +5,16 @@ ghost use Rattle.rules.specs.Limits as limits;
 ghost use Rattle.rules.specs.Clock.{elapsedTicks};
 use tree::Refusal;
 
+// A packet's most bytes; the packets that may wait in a leaf; the last tick, and the most bytes accepted;
+// the fewest elapsed ticks that are too many.
+pub const LONGEST: u32 = 9000;
+
+pub const ROOM: u64 = 64;
+
+pub const END: u64 = 1099511627776;
+
+pub const TOO_FAR: u32 = 2147483648;
+
 // The rule by which a packet leaves.
 pub enum Rule {
     RealTime,

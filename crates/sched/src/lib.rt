@@ -98,17 +98,17 @@ fn admit(words: &[u64; 1536], class: u32, length: u32) -> Admission
             why: Refusal::WrongLength,
         };
     }
-    if 9000 < length {
+    if rules::LONGEST < length {
         return Admission::Refused {
             why: Refusal::WrongLength,
         };
     }
-    if 64 <= get(words, leaf, CAME) - get(words, leaf, LEFT) {
+    if rules::ROOM <= get(words, leaf, CAME) - get(words, leaf, LEFT) {
         return Admission::Refused {
             why: Refusal::LeafFull,
         };
     }
-    if 1099511627776 < get(words, BYTES, HEADER) + rules::weigh(length) {
+    if rules::END < get(words, BYTES, HEADER) + rules::weigh(length) {
         return Admission::Refused {
             why: Refusal::BytesFull,
         };

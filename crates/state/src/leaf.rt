@@ -25,7 +25,7 @@ ghost use Rattle.state.specs.Columns as col;
 ghost use Rattle.state.specs.Steps.{curveIn, keptIn, withKept, RipeStored, DueStored, NarrowCurve, KeptSoon};
 
 // The class's curve, as the enum.
-pub fn curve_of(words: &[u64; 1536], class: usize) -> Curve
+fn curve_of(words: &[u64; 1536], class: usize) -> Curve
     requires { ⌜ (class < 64) × NarrowCurve (now words) class ⌝ }
     ensures { λ r. ⌜ r ≡ curveIn (now (words .entry)) class ⌝ }
 {
@@ -50,7 +50,7 @@ pub fn curve_of(words: &[u64; 1536], class: usize) -> Curve
 }
 
 // The pieces kept of the leaf's history.
-pub fn kept_of(words: &[u64; 1536], class: usize) -> Kept
+fn kept_of(words: &[u64; 1536], class: usize) -> Kept
     requires { ⌜ class < 64 ⌝ }
     ensures { λ r. ⌜ r ≡ keptIn (now (words .entry)) class ⌝ }
 {
@@ -66,7 +66,7 @@ pub fn kept_of(words: &[u64; 1536], class: usize) -> Kept
     }
 }
 
-pub fn put_kept(words: &mut [u64; 1536], class: usize, kept: Kept)
+fn put_kept(words: &mut [u64; 1536], class: usize, kept: Kept)
     requires { ⌜ class < 64 ⌝ }
     ensures { λ r. ⌜ now (words .exit) ≡ withKept (now (words .entry)) class kept ⌝ }
 {

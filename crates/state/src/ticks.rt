@@ -25,7 +25,7 @@ fn too_far(stamp: u32, last: u32) -> bool
     ensures { λ r. ⌜ Exactly r (limits.tooFar ≤ elapsedTicks stamp last) ⌝ }
 {
     let elapsed = rules::elapsed(stamp, last);
-    2147483648 <= elapsed
+    rules::TOO_FAR <= elapsed
 }
 
 // Refusal 14, then 15: "clock would pass 2^40".
@@ -40,7 +40,7 @@ pub fn tick(words: &[u64; 1536], stamp: u32) -> Moment
         };
     }
     let now = get(words, CLOCK, HEADER) + rules::elapsed(stamp, last) as u64;
-    if 1099511627776 < now {
+    if rules::END < now {
         return Moment::Refused {
             why: Refusal::ClockFull,
         };

@@ -4,7 +4,7 @@ use Prim.Native.Nat.{ℕ}
 use mathlib.Core.Path.{_≡_, sym, _∙_}
 use Rattle.tree.specs.Numbers.{numberOf}
 use Rattle.tree.specs.Rules.{Judged}
-use Rattle.tree.specs.Trees.{classAt, emptyTree}
+use Rattle.tree.specs.Trees.{classAt, emptyTree, noClass}
 use Rattle.tree.specs.declared.Class.{Class}
 use Rattle.tree.specs.declared.Refusal.{Refusal}
 use Rattle.tree.specs.declared.Tree.{Tree}
@@ -14,6 +14,9 @@ use Rattle.tree.proofs.Verdicts.{checked-one}
 
 pub number-one : (refusal : Refusal) (r s : ℕ) → r ≡ numberOf refusal → s ≡ numberOf refusal → r ≡ s
 number-one refusal r s p q = p ∙ sym q
+
+pub no-class-one : (r s : Class) → r ≡ noClass → s ≡ noClass → r ≡ s
+no-class-one r s p q = p ∙ sym q
 
 pub empty-one : (r s : Tree) → r ≡ emptyTree → s ≡ emptyTree → r ≡ s
 empty-one r s p q = p ∙ sym q

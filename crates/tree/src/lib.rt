@@ -80,7 +80,7 @@ pub fn number(refusal: Refusal) -> u32
 }
 
 // What stands where no class is.
-fn no_class() -> Class
+pub fn no_class() -> Class
     ensures { λ r. ⌜ r ≡ noClass ⌝ }
 {
     Class {

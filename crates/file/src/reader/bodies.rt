@@ -2,7 +2,6 @@
 ghost use mathlib.Core.Path.{_≡_};
 ghost use Prim.Native.Nat.{_+_, _≤_};
 ghost use lib.ListN.{length};
-ghost use Rattle.tree.specs.Trees.{noClass};
 ghost use Rattle.file.specs.Format.{bodyBytes, treeOf};
 ghost use Rattle.file.specs.Steps.{Opened, Lying, AllPlaced, curveFrom, classFrom};
 use super::contents::KINDS;
@@ -15,17 +14,6 @@ use crate::format::HEADER;
 use curve::Curve;
 use tree::Class;
 use tree::Tree;
-
-// What stands where no class is.
-fn no_class() -> Class
-    ensures { λ r. ⌜ r ≡ noClass ⌝ }
-{
-    Class {
-        parent: 0,
-        share: 0,
-        curve: Curve::None,
-    }
-}
 
 // The curve of a kind, with its numbers, which stand from a place on.
 fn curve_of(order: Order, file: &[u8], at: usize, kind: u32) -> Curve
@@ -58,10 +46,10 @@ fn class_of(order: Order, file: &[u8], entry: Entry) -> Class
     let bytes = entry.bytes;
     let kind = word(order, file, at + 8);
     if KINDS <= kind {
-        return no_class();
+        return tree::no_class();
     }
     if bytes != body_bytes(kind) {
-        return no_class();
+        return tree::no_class();
     }
     let parent = word(order, file, at);
     let share = word(order, file, at + 4);
