@@ -17,7 +17,6 @@ use Rattle.rules.specs.Limits.{end, longest}
 use Rattle.rules.specs.Calls.{Call, left, History}
 use Rattle.rules.specs.Queues.{headNumber, nextNumber}
 use Rattle.rules.specs.Leaves.{sentRealTime, DeadlineOf, EligibleOf}
-use Rattle.rules.specs.Classes.{active}
 use Rattle.rules.specs.Lawful.{Allowed, Lawful}
 use Rattle.rules.specs.Answers.{IsHead, withCall}
 use Rattle.state.specs.Table.{at, with}

@@ -40,7 +40,7 @@ use tree::Tree;
 use tree::Verdict;
 ghost use mathlib.Core.Path.{_≡_};
 ghost use mathlib.Core.List.{List};
-ghost use Prim.Native.Nat.{ℕ, _+_, _^_, _<_};
+ghost use Prim.Native.Nat.{ℕ, _+_, _*_, _%_, _^_, _<_};
 ghost use Rattle.tree.specs.declared.Tree.{Tree};
 ghost use Rattle.rules.specs.Calls.{Call, came, left, History};
 ghost use Rattle.rules.specs.Lawful.{Allowed, Lawful};
@@ -138,6 +138,14 @@ fn begin(words: &mut [u64; 1536], class: usize, tick: u64, length: u32)
     wake(words, class);
 }
 
+// Where the length of a leaf's packet lies, by its number.
+fn slot(class: usize, number: u64) -> usize
+    requires { ⌜ class < 64 ⌝ }
+    ensures { λ r. ⌜ r ≡ 64 * class + number % 64 ⌝ }
+{
+    64 * class + (number % 64) as usize
+}
+
 // The packet is put at the end of the leaf's queue.
 fn accept(
     words: &mut [u64; 1536],
@@ -154,7 +162,7 @@ fn accept(
     let bytes = get(words, BYTES, HEADER) + rules::weigh(length);
     put(words, BYTES, HEADER, bytes);
     put(words, class, CAME, number + 1);
-    lengths[64 * class + (number % 64) as usize] = length as u16;
+    lengths[slot(class, number)] = length as u16;
     if waiting == 0 {
         begin(words, class, tick, length);
     }
@@ -251,7 +259,7 @@ fn settle(words: &mut [u64; 1536], lengths: &[u16; 4096], class: usize, rule: Ru
 {
     let number = get(words, class, LEFT);
     if number < get(words, class, CAME) {
-        let length = lengths[64 * class + (number % 64) as usize] as u32;
+        let length = lengths[slot(class, number)] as u32;
         time_next(words, class, rule, length);
     } else {
         put(words, class, ELIGIBLE, NEVER);
@@ -278,7 +286,7 @@ fn take(words: &mut [u64; 1536], lengths: &mut [u16; 4096], class: usize, rule: 
     ensures { λ r. ⌜ ((h : History) (t : ℕ) → Lawful h → Shows (now (words .entry)) (now (lengths .entry)) h → Allowed (h .tree) (h .calls) (left t class rule) → TakeRight h t class rule r (now (words .exit)) (now (lengths .exit))) ⌝ }
 {
     let number = get(words, class, LEFT);
-    let slot = 64 * class + (number % 64) as usize;
+    let slot = slot(class, number);
     let length = lengths[slot] as u32;
     let times = times_of(words, class);
     lengths[slot] = 0;

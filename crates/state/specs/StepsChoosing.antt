@@ -7,7 +7,7 @@ use mathlib.Core.List.{List}
 use lib.ListN.{length}
 use Rattle.tree.specs.declared.Tree.{Tree}
 use Rattle.tree.specs.Trees.{isLeaf, depth}
-use Rattle.rules.specs.Calls.{Call, left}
+use Rattle.rules.specs.Calls.{Call}
 use Rattle.rules.specs.Classes.{active}
 use Rattle.rules.specs.Fair.{virtualTimeOf}
 use Rattle.rules.specs.Choice as by
@@ -15,7 +15,7 @@ use Rattle.rules.specs.Choice.{First, Contends, RealTimeRule, ActiveChild, Noth
 use Rattle.rules.specs.Lawful.{LawfulCalls, Grown}
 use Rattle.state.specs.declared.choice.Found.{Found}
 use Rattle.state.specs.declared.choice.Choice.{Choice}
-use Rattle.state.specs.Table.{at, with}
+use Rattle.state.specs.Table.{at}
 use Rattle.state.specs.Columns.{HEADER, COUNT}
 use Rattle.state.specs.State.{ShowsTree, ShowsLeaf, ShowsFair}
 

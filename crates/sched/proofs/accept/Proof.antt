@@ -71,30 +71,27 @@ cast-lengths c =
     let start = c .before .before .before .before .before .before .before .before .before .before .before in
     omega (arith, start .pre .allowed .1 .short)
 
+slot-requires : tie.Need-slot-requires
+slot-requires c κs = narrow (c .before .before .before .before .before .before .before .before .before .before .before)
+
 mul-lengths : tie.Need-mul-lengths
-mul-lengths c = omega (arith, narrow (c .before .before .before .before .before .before .before .before .before .before .before))
-
-add-lengths : tie.Need-add-lengths
-add-lengths c = omega (arith, narrow (c .before .before .before .before .before .before .before .before .before .before .before))
-
-mul-lengths-2 : tie.Need-mul-lengths-2
-mul-lengths-2 c = omega (arith, narrow (c .before .before .before .before .before .before .before .before .before .before .before))
+mul-lengths c = omega (arith, narrow (c .before .before .before .before .before .before .before .before .before .before .before .before), c .slot .ensures)
 
 element-write-lengths : tie.Need-element-write-lengths
-element-write-lengths c = omega (arith, narrow (c .before .before .before .before .before .before .before .before .before .before .before))
+element-write-lengths c = omega (arith, narrow (c .before .before .before .before .before .before .before .before .before .before .before .before), c .slot .ensures)
 
 -- the steps before the counts were stored
-abbrev first : tie.After-put2 → tie.After-get
-first c = c .before .before .before .before .before .before .before .before .before
+abbrev first : tie.After-slot → tie.After-get
+first c = c .before .before .before .before .before .before .before .before .before .before
 
-abbrev second : tie.After-put2 → tie.After-get2
-second c = c .before .before .before .before .before .before .before
+abbrev second : tie.After-slot → tie.After-get2
+second c = c .before .before .before .before .before .before .before .before
 
-abbrev start : tie.After-put2 → tie.Start
+abbrev start : tie.After-slot → tie.Start
 start c = first c .before .before
 
 -- the table with the counts, for every history that the arrays show
-module _ (c : tie.After-put2) (h : History) (law : Lawful h) (s : Shows (start c .args .words .now) (start c .args .lengths .now) h)
+module _ (c : tie.After-slot) (h : History) (law : Lawful h) (s : Shows (start c .args .words .now) (start c .args .lengths .now) h)
     (allowed : Allowed (h .tree) (h .calls) (came (start c .args .tick) (start c .args .class) (start c .args .length))) where
   mine : start c .args .class < h .tree .count
   mine = leaf-class (h .tree) (start c .args .class) (allowed .1 .leaf)
@@ -105,26 +102,27 @@ module _ (c : tie.After-put2) (h : History) (law : Lawful h) (s : Shows (start c
   length-is : second c .get2 .result + length (queue (h .calls) (start c .args .class)) ≡ first c .get .result
   length-is = omega (arith, waiting-shown law s (start c .args .class) mine, second c .get2 .ensures, first c .get .ensures)
 
-  counts : Counted (start c .args .words .now) (c .put2 .last .0) (start c .args .class) (accepted (h .calls) + weigh (start c .args .length))
+  counts : Counted (start c .args .words .now) (c .before .put2 .last .0) (start c .args .class) (accepted (h .calls) + weigh (start c .args .length))
       (nextNumber (h .calls) (start c .args .class) + 1)
   counts =
-      let weighed = c .before .before .before .before in
-      counted-by (start c .args .class) _ _ _ _ (s .size) (class-narrow law s (start c .args .class) mine) (c .before .before .put .ensures) (c .put2 .ensures)
+      let weighed = c .before .before .before .before .before in
+      counted-by (start c .args .class) _ _ _ _ (s .size) (class-narrow law s (start c .args .class) mine) (c .before .before .before .put .ensures) (c .before .put2 .ensures)
       ((λ i. weighed .before .get3 .ensures i + weighed .weigh .ensures i) ∙ ap (λ (x : ℕ). x + weigh (start c .args .length)) (s .header .bytes))
       (ap (λ (x : ℕ). x + 1) number-is)
 
-  slot-is : set (start c .args .lengths .now) (64 * start c .args .class + first c .get .result % 64) (start c .args .length)
+  slot-is : set (start c .args .lengths .now) (c .slot .result) (start c .args .length)
       ≡ set (start c .args .lengths .now) (64 * start c .args .class + nextNumber (h .calls) (start c .args .class) % 64) (start c .args .length)
-  slot-is = ap (λ (x : ℕ). set (start c .args .lengths .now) (64 * start c .args .class + x % 64) (start c .args .length)) number-is
+  slot-is =
+      ap (λ (x : ℕ). set (start c .args .lengths .now) x (start c .args .length)) (c .slot .ensures ∙ ap (λ (x : ℕ). 64 * start c .args .class + x % 64) number-is)
 
-  begins : first c .get .result - second c .get2 .result ≡ 0 → BeforeBegin (c .put2 .last .0) (h .tree) (h .calls) (start c .args .class) (start c .args .tick) (start c .args .length)
+  begins : first c .get .result - second c .get2 .result ≡ 0 → BeforeBegin (c .before .put2 .last .0) (h .tree) (h .calls) (start c .args .class) (start c .args .tick) (start c .args .length)
   begins none =
       before-begin h law s (start c .args .tick) (start c .args .class) (start c .args .length) allowed counts
       (waits-none (h .calls) (start c .args .class) (omega (arith, length-is)))
 
-  accepted-by : {m : List ℕ} → AfterBegin (c .put2 .last .0) m (h .tree) (h .calls) (start c .args .class) (start c .args .tick) (start c .args .length)
+  accepted-by : {m : List ℕ} → AfterBegin (c .before .put2 .last .0) m (h .tree) (h .calls) (start c .args .class) (start c .args .tick) (start c .args .length)
       → AcceptRight h (start c .args .tick) (start c .args .class) (start c .args .length) (first c .get .result) m
-      (set (start c .args .lengths .now) (64 * start c .args .class + first c .get .result % 64) (start c .args .length))
+      (set (start c .args .lengths .now) (c .slot .result) (start c .args .length))
   accepted-by after =
       record {
         numbered = number-is;
@@ -167,9 +165,8 @@ accept-spec =
     add-put
     put-requires-2
     cast-lengths
+    slot-requires
     mul-lengths
-    add-lengths
-    mul-lengths-2
     element-write-lengths
     begin-requires
     returns

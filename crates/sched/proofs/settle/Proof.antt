@@ -23,45 +23,41 @@ get-requires c κs = (settle-class (c .before .pre .before), omega arith)
 get-requires-2 : tie.Need-get-requires-2
 get-requires-2 c κs = (settle-class (c .before .before .before .pre .before), omega arith)
 
+slot-requires : tie.Need-slot-requires
+slot-requires c κs = settle-class (c .before .before .before .before .before .pre .before)
+
+-- the entry
+abbrev start : tie.After-slot → tie.Start
+start c = c .before .before .before .before .before .before
+
 -- a packet waits: what the code knows in the first arm, for every history that the arrays show
-module _ (c : tie.Then1) {tree : Tree} {cs : List Call} {t : ℕ}
-    (b : BeforeSettle (c .before .before .before .before .before .args .words .now) (c .before .before .before .before .before .args .lengths .now) tree cs
-    (c .before .before .before .before .before .args .class) t (c .before .before .before .before .before .args .rule)) where
-  still : waits (left t (c .before .before .before .before .before .args .class) (c .before .before .before .before .before .args .rule) ∷ cs)
-      (c .before .before .before .before .before .args .class) ≡ true
-  still = next-waits b (omega (arith, c .before .before .before .get .ensures, c .before .get2 .ensures, c .if1 .taken))
+module _ (c : tie.After-slot) {tree : Tree} {cs : List Call} {t : ℕ}
+    (b : BeforeSettle (start c .args .words .now) (start c .args .lengths .now) tree cs (start c .args .class) t (start c .args .rule)) where
+  still : waits (left t (start c .args .class) (start c .args .rule) ∷ cs) (start c .args .class) ≡ true
+  still = next-waits b (omega (arith, c .before .before .before .before .get .ensures, c .before .before .get2 .ensures, c .before .if1 .taken))
 
-  value : getD (c .before .before .before .before .before .args .lengths .now)
-      (64 * c .before .before .before .before .before .args .class + c .before .before .before .get .result % 64) 0
-      ≡ headLength (left t (c .before .before .before .before .before .args .class) (c .before .before .before .before .before .args .rule) ∷ cs)
-      (c .before .before .before .before .before .args .class)
+  value : getD (start c .args .lengths .now) (c .slot .result) 0
+      ≡ headLength (left t (start c .args .class) (start c .args .rule) ∷ cs) (start c .args .class)
   value =
-      let start = c .before .before .before .before .before in
-      ap (λ (x : ℕ). getD (start .args .lengths .now) (64 * start .args .class + x % 64) 0) (c .before .before .before .get .ensures) ∙ next-length b still
+      ap (λ (x : ℕ). getD (start c .args .lengths .now) x 0)
+      (c .slot .ensures ∙ ap (λ (x : ℕ). 64 * start c .args .class + x % 64) (c .before .before .before .before .get .ensures))
+      ∙ next-length b still
 
-  short : getD (c .before .before .before .before .before .args .lengths .now)
-      (64 * c .before .before .before .before .before .args .class + c .before .before .before .get .result % 64) 0
-      ≤ 9000
+  short : getD (start c .args .lengths .now) (c .slot .result) 0 ≤ 9000
   short = omega (arith, value, next-short b still)
 
 mul-length : tie.Need-mul-length
-mul-length c = omega (arith, settle-class (c .before .before .before .before .before .pre .before))
-
-add-length : tie.Need-add-length
-add-length c = omega (arith, settle-class (c .before .before .before .before .before .pre .before))
-
-mul-length-2 : tie.Need-mul-length-2
-mul-length-2 c = omega (arith, settle-class (c .before .before .before .before .before .pre .before))
+mul-length c = omega (arith, settle-class (start c .pre .before), c .slot .ensures)
 
 element-copy-out-length : tie.Need-element-copy-out-length
-element-copy-out-length c = omega (arith, settle-class (c .before .before .before .before .before .pre .before))
+element-copy-out-length c = omega (arith, settle-class (start c .pre .before), c .slot .ensures)
 
 cast-length : tie.Need-cast-length
-cast-length c = omega (arith, short (c .before) (c .before .before .before .before .before .before .pre .before))
+cast-length c = omega (arith, short (c .before) (start (c .before) .pre .before))
 
 time-next-requires : tie.Need-time-next-requires
 time-next-requires c κs =
-    let b = c .before .before .before .before .before .before .before .pre .before in
+    let b = start (c .before .before) .pre .before in
     (settle-class b, λ some. next-timable b _ (short (c .before .before) b) some)
 
 put-requires : tie.Need-put-requires
@@ -103,8 +99,8 @@ rest-requires c κs =
 
 returns : tie.Need-returns
 returns c = λ tree cs t b.
-    settled-next (c .before .before .before .before .before .before .before .before .args .rule) b _ (value (c .before .before .before) b) (still (c .before .before .before) b)
-    (c .time-next .ensures)
+    let d = c .before .before .before in
+    settled-next (start d .args .rule) b _ (value d b) (still d b) (c .time-next .ensures)
 
 returns-2 : tie.Need-returns-2
 returns-2 c = λ tree cs t b.
@@ -119,9 +115,8 @@ settle-spec =
     (tie.spec
     get-requires
     get-requires-2
+    slot-requires
     mul-length
-    add-length
-    mul-length-2
     element-copy-out-length
     cast-length
     time-next-requires
