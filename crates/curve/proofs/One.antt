@@ -5,7 +5,7 @@ use Prim.Native.Nat.{ℕ}
 use mathlib.Core.Path.{_≡_, sym, _∙_}
 use mathlib.Core.Bool.{Bool}
 use mathlib.Core.List.{List}
-use Rattle.curve.specs.Answers.{Least, Exactly}
+use Rattle.curve.specs.Answers.{Least, NotBefore, Exactly}
 use Rattle.curve.specs.Curves.{RightCurve, Reaches}
 use Rattle.curve.specs.Fit.{CurvesFit}
 use Rattle.curve.specs.Pieces.{Stands, BothStand, early}
@@ -24,8 +24,8 @@ right-one S r s = exactly-one r s (RightCurve S)
 pub fits-one : (Ss : List Curve) (r s : Bool) → Exactly r (CurvesFit Ss) → Exactly s (CurvesFit Ss) → r ≡ s
 fits-one Ss r s = exactly-one r s (CurvesFit Ss)
 
-pub earliest-one : (S : Curve) (parts : ℕ) {r s : ℕ} → Least (Reaches S parts) r → Least (Reaches S parts) s → r ≡ s
-earliest-one S parts = least-one
+pub earliest-one : (S : Curve) (parts from : ℕ) {r s : ℕ} → Least (NotBefore from (Reaches S parts)) r → Least (NotBefore from (Reaches S parts)) s → r ≡ s
+earliest-one S parts from = least-one
 
 pub arrival-one : (S : Curve) (p : Piece) (bytes : ℕ) {r s : ℕ} → Least (Stands S p bytes) r → Least (Stands S p bytes) s → r ≡ s
 arrival-one S p bytes = least-one

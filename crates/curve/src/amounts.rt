@@ -1,9 +1,9 @@
 // What a curve has reached at a tick, its slopes, and whether its numbers are within the limits.
 use crate::Curve;
 ghost use mathlib.Core.Path.{_≡_};
-ghost use Prim.Native.Nat.{_-_, _<_, _^_};
+ghost use Prim.Native.Nat.{_-_, _*_, _≤_, _<_, _^_};
 ghost use Rattle.curve.specs.Answers.{Exactly};
-ghost use Rattle.curve.specs.Curves.{Within, RightFront, RightDelay, RightCurve, amount};
+ghost use Rattle.curve.specs.Curves.{Within, RightRate, RightFront, RightDelay, RightCurve, Rising, Reaches, amount, inParts, mostBytes};
 ghost use Rattle.curve.specs.Pieces.{firstSlope, lastSlope, early};
 
 // Whether x is from low to high.
@@ -98,6 +98,31 @@ pub fn reached(curve: Curve, tick: u64) -> u64
         }
         Curve::Delayed { bend, rate } => rate as u64 * less(tick, bend as u64),
     }
+}
+
+// Whether a line of that rate has risen by the parts in the ticks, however many. 64 bits need not hold
+// the product, so the ticks are taken in two halves: 2^25 times 2^32 is as much as can be asked for.
+pub(crate) fn has_risen(rate: u32, ticks: u64, parts: u64) -> bool
+    requires { ⌜ RightRate rate × (parts ≤ inParts mostBytes) ⌝ }
+    ensures { λ r. ⌜ Exactly r (parts ≤ rate * ticks) ⌝ }
+{
+    let high = rate as u64 * (ticks / 4294967296);
+    if 33554432 <= high {
+        return true;
+    }
+    parts <= 4294967296 * high + rate as u64 * (ticks % 4294967296)
+}
+
+// Whether the curve has reached the parts at a tick, however late. Where its last slope alone has not
+// risen so far by then, 64 bits hold what it has reached.
+pub(crate) fn has_reached(curve: Curve, parts: u64, tick: u64) -> bool
+    requires { ⌜ Rising curve × (parts ≤ inParts mostBytes) ⌝ }
+    ensures { λ r. ⌜ Exactly r (Reaches curve parts tick) ⌝ }
+{
+    if has_risen(last_slope(curve), less(tick, 1048576), parts) {
+        return true;
+    }
+    parts <= reached(curve, tick)
 }
 
 // The slope before the bend.

@@ -3,13 +3,14 @@ use crate::Curve;
 use crate::Kept;
 use crate::Piece;
 use crate::amounts::first_slope;
+use crate::amounts::has_risen;
 use crate::amounts::last_slope;
 use crate::amounts::less;
 use crate::amounts::undelayed;
 use crate::search::earliest;
 ghost use mathlib.Core.Path.{_≡_};
 ghost use Prim.Native.Nat.{_≤_, _<_};
-ghost use Rattle.curve.specs.Answers.{Least};
+ghost use Rattle.curve.specs.Answers.{Least, NotBefore};
 ghost use Rattle.curve.specs.Curves.{Rising, RightRate, mostBytes, mostStart};
 ghost use Rattle.curve.specs.Pieces.{Stands, BothStand, lowerOf, keptWith, early};
 
@@ -19,31 +20,57 @@ pub fn lower(rate: u32, old: Piece, new: Piece) -> Piece
     ensures { λ r. ⌜ r ≡ lowerOf rate old new ⌝ }
 {
     let rise = 65536 * less(new.sent, old.sent);
-    if earliest(Curve::Straight { rate }, rise) <= less(new.start, old.start) {
+    if has_risen(rate, less(new.start, old.start), rise) {
         new
     } else {
         old
     }
 }
 
-// The earliest tick, not before its start, at which the piece stands at that many bytes.
-pub fn arrival(curve: Curve, piece: Piece, bytes: u64) -> u64
+// The earliest tick, not before `from` nor its start, at which the piece stands at that many bytes.
+fn arrival_from(curve: Curve, piece: Piece, bytes: u64, from: u64) -> u64
+    requires { ⌜ Rising curve × (bytes ≤ mostBytes) × (piece .start ≤ mostStart) ⌝ }
+    ensures { λ r. ⌜ Least (NotBefore from (Stands curve piece bytes)) r ⌝ }
+{
+    let rise = 65536 * less(bytes, piece.sent);
+    piece.start + earliest(curve, rise, less(from, piece.start))
+}
+
+// The earliest tick, not before its start, at which the piece stands at that many bytes. It is sought
+// from `near` on, so a tick close before it is found soonest; any gives the same answer.
+pub fn arrival(curve: Curve, piece: Piece, bytes: u64, near: u64) -> u64
     requires { ⌜ Rising curve × (bytes ≤ mostBytes) × (piece .start ≤ mostStart) ⌝ }
     ensures { λ r. ⌜ Least (Stands curve piece bytes) r ⌝ }
 {
-    piece.start + earliest(curve, 65536 * less(bytes, piece.sent))
+    let from = less(near, 1);
+    let tick = arrival_from(curve, piece, bytes, from);
+    if from < tick {
+        return tick;
+    }
+    arrival_from(curve, piece, bytes, 0)
 }
 
-// The earliest tick at which both pieces stand so.
-fn both(curve: Curve, kept: Kept, bytes: u64) -> u64
+// The earliest tick, not before `from`, at which both pieces stand so.
+fn both_from(curve: Curve, kept: Kept, bytes: u64, from: u64) -> u64
     requires { ⌜ Rising curve × (bytes ≤ mostBytes) × (kept .steep .start ≤ mostStart) × (kept .flat .start ≤ mostStart) ⌝ }
-    ensures { λ r. ⌜ Least (BothStand curve kept bytes) r ⌝ }
+    ensures { λ r. ⌜ Least (NotBefore from (BothStand curve kept bytes)) r ⌝ }
 {
     let steep = kept.steep;
     let flat = kept.flat;
-    let a = arrival(curve, steep, bytes);
-    let b = arrival(curve, flat, bytes);
-    if a < b { b } else { a }
+    arrival_from(curve, flat, bytes, arrival_from(curve, steep, bytes, from))
+}
+
+// The earliest tick at which both pieces stand so, sought from `near` on as `arrival` does.
+fn both(curve: Curve, kept: Kept, bytes: u64, near: u64) -> u64
+    requires { ⌜ Rising curve × (bytes ≤ mostBytes) × (kept .steep .start ≤ mostStart) × (kept .flat .start ≤ mostStart) ⌝ }
+    ensures { λ r. ⌜ Least (BothStand curve kept bytes) r ⌝ }
+{
+    let from = less(near, 1);
+    let due = both_from(curve, kept, bytes, from);
+    if from < due {
+        return due;
+    }
+    both_from(curve, kept, bytes, 0)
 }
 
 impl Kept {
@@ -71,18 +98,18 @@ impl Kept {
     }
 
     // The earliest tick at which that many bytes are due.
-    pub fn deadline(self, curve: Curve, bytes: u64) -> u64
+    pub fn deadline(self, curve: Curve, bytes: u64, near: u64) -> u64
         requires { ⌜ Rising curve × (bytes ≤ mostBytes) × (self .steep .start ≤ mostStart) × (self .flat .start ≤ mostStart) ⌝ }
         ensures { λ r. ⌜ Least (BothStand curve self bytes) r ⌝ }
     {
-        both(curve, self, bytes)
+        both(curve, self, bytes, near)
     }
 
     // The earliest tick at which the leaf may send more than that many bytes.
-    pub fn eligible(self, curve: Curve, bytes: u64) -> u64
+    pub fn eligible(self, curve: Curve, bytes: u64, near: u64) -> u64
         requires { ⌜ Rising curve × (bytes ≤ mostBytes) × (self .steep .start ≤ mostStart) × (self .flat .start ≤ mostStart) ⌝ }
         ensures { λ r. ⌜ Least (BothStand (early curve) self bytes) r ⌝ }
     {
-        both(undelayed(curve), self, bytes)
+        both(undelayed(curve), self, bytes, near)
     }
 }

@@ -125,7 +125,7 @@ fn time_first(words: &mut [u64; 1536], class: usize, tick: u64, length: u32)
         return;
     }
     add_piece(words, class, tick);
-    ripen(words, class);
+    ripen(words, class, tick);
     due(words, class, length);
 }
 
@@ -245,8 +245,9 @@ fn time_next(words: &mut [u64; 1536], class: usize, rule: Rule, length: u32)
     if get(words, class, KIND) == 0 {
         return;
     }
+    let near = get(words, class, ELIGIBLE);
     match rule {
-        Rule::RealTime => ripen(words, class),
+        Rule::RealTime => ripen(words, class, near),
         Rule::Fair => {}
     }
     due(words, class, length);

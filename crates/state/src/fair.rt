@@ -137,7 +137,9 @@ fn bring_up(words: &mut [u64; 1536], class: usize)
 {
     let rate = share_of(words, class);
     let sent = get(words, class, SENT);
-    let time = curve::pieces::arrival(Curve::Straight { rate }, fair_piece(words, class), sent);
+    let near = get(words, class, VIRTUAL);
+    let piece = fair_piece(words, class);
+    let time = curve::pieces::arrival(Curve::Straight { rate }, piece, sent, near);
     put(words, class, VIRTUAL, time);
 }
 

@@ -89,22 +89,23 @@ pub fn add_piece(words: &mut [u64; 1536], class: usize, tick: u64)
     put_kept(words, class, kept);
 }
 
-// The eligible time of the leaf's head.
-pub fn ripen(words: &mut [u64; 1536], class: usize)
+// The eligible time of the leaf's head, sought from `near` on.
+pub fn ripen(words: &mut [u64; 1536], class: usize, near: u64)
     requires { ⌜ (class < 64) × NarrowCurve (now words) class × Rising (curveIn (now words) class) × (at (now words) class col.BYTES-RT ≤ mostBytes) × KeptSoon (now words) class ⌝ }
     ensures { λ r. ⌜ RipeStored (now (words .entry)) (now (words .exit)) class ⌝ }
 {
     let sent = get(words, class, BYTES_RT);
-    let eligible = kept_of(words, class).eligible(curve_of(words, class), sent);
+    let eligible = kept_of(words, class).eligible(curve_of(words, class), sent, near);
     put(words, class, ELIGIBLE, eligible);
 }
 
-// The deadline of the leaf's head, of this length.
+// The deadline of the leaf's head, of this length, sought from its eligible time on.
 pub fn due(words: &mut [u64; 1536], class: usize, length: u32)
     requires { ⌜ (class < 64) × NarrowCurve (now words) class × Rising (curveIn (now words) class) × (at (now words) class col.BYTES-RT ≤ end) × (length ≤ longest) × KeptSoon (now words) class ⌝ }
     ensures { λ r. ⌜ DueStored (now (words .entry)) (now (words .exit)) class length ⌝ }
 {
     let bytes = get(words, class, BYTES_RT) + rules::weigh(length);
-    let deadline = kept_of(words, class).deadline(curve_of(words, class), bytes);
+    let near = get(words, class, ELIGIBLE);
+    let deadline = kept_of(words, class).deadline(curve_of(words, class), bytes, near);
     put(words, class, DEADLINE, deadline);
 }

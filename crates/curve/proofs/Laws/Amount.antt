@@ -1,8 +1,8 @@
 -- What every curve's amount obeys.
 -- Assumes nothing.
-use Prim.Native.Nat.{ℕ, _+_, _-_, _*_, _≤_, _<_, _^_, min}
+use Prim.Native.Nat.{ℕ, _+_, _-_, _*_, _/_, _%_, _≤_, _<_, _^_, min}
 use mathlib.Core.Path.{_≡_, refl, ap}
-use native.Mathlib.Nat.{mul-le-mul-left, mul-le-mul-right, mul-le-mul, le-trans, add-le-add, le-of-eq, le-of-lt, le-dest, mul-add, mul-zero}
+use native.Mathlib.Nat.{mul-le-mul-left, mul-le-mul-right, mul-le-mul, le-trans, add-le-add, le-of-eq, le-of-lt, le-dest, mul-add, mul-zero, div-add-mod'}
 use native.Mathlib.Omega.{arith}
 use mathlib.Core.Logic.{⊎-elim}
 use Rattle.curve.proofs.Laws.Order.{le-or-lt}
@@ -87,6 +87,10 @@ pub front-past : (m₁ d m₂ t : ℕ) → d < t → m₁ * d + m₂ * (t - d) �
 unfolding amount
 front-past m₁ d m₂ t l = let q : min t d ≡ d = omega arith in omega (arith, ap (λ z. m₁ * z) q)
 
+-- a line's rise in t ticks, with t in two halves of 32 bits
+pub line-halves : (m t : ℕ) → m * t ≡ 4294967296 * (m * (t / 4294967296)) + m * (t % 4294967296)
+line-halves m t = omega (arith, ap (λ z. m * z) (div-add-mod' t 4294967296))
+
 -- a curve whose slopes are at most b has at most b a tick
 pub amount-most : (b : ℕ) (S : Curve) → firstSlope S ≤ b → lastSlope S ≤ b → (x : ℕ) → amount S x ≤ b * x
 unfolding amount
@@ -105,6 +109,24 @@ rising-slopes (Delayed d m) r = (r .rate, r .rate)
 
 pub rising-most : (S : Curve) → Rising S → (x : ℕ) → amount S x ≤ inParts x
 rising-most S r = amount-most 65536 S (rising-slopes S r .0 .below) (rising-slopes S r .1 .below)
+
+line-most : {m : ℕ} → RightRate m → (x y : ℕ) → x ≤ y + 1048576 → m * x ≤ m * y + 65536 * 1048576
+line-most {m} r x y l = omega (arith, mul-le-mul-left m l, mul-le-mul (r .below) (native.Mathlib.Nat.le-refl 1048576))
+
+-- a curve has at least what its last slope has risen past the longest bend, and little more
+pub last-slope-least : (S : Curve) → Rising S → (t : ℕ) → lastSlope S * (t - 1048576) ≤ amount S t
+unfolding amount Rising
+last-slope-least (Straight m) r t = mul-le-mul-left m (omega arith)
+last-slope-least (FrontLoaded m₁ d m₂) r t = let a : m₂ * (t - 1048576) ≤ m₂ * (t - d) = mul-le-mul-left m₂ (omega (arith, r .bend .below)) in omega arith
+last-slope-least (Delayed d m) r t = mul-le-mul-left m (omega (arith, r .bend .below))
+
+pub last-slope-most : (S : Curve) → Rising S → (t : ℕ) → amount S t ≤ lastSlope S * (t - 1048576) + 2 * (65536 * 1048576)
+unfolding amount Rising
+last-slope-most (Straight m) r t = omega (arith, line-most r t (t - 1048576) (omega arith))
+last-slope-most (FrontLoaded m₁ d m₂) r t =
+    let l : min t d ≤ 1048576 = omega (arith, r .bend .below) in
+    omega (arith, mul-le-mul (r .first .below) l, line-most (r .last) (t - d) (t - 1048576) (omega arith))
+last-slope-most (Delayed d m) r t = omega (arith, line-most (r .rate) (t - d) (t - 1048576) (omega arith))
 
 -- so a tick at which an amount is not reached is not far past that amount
 pub rising-soon : (S : Curve) → Rising S → {t y : ℕ} → amount S t < y → t < y + 1048576

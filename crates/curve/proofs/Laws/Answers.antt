@@ -1,11 +1,15 @@
--- What a test's answer tells, and that a least number is one number.
+-- What a test's answer tells, that a least number is one number, and how it is found from a number on.
 -- Assumes nothing.
-use Prim.Native.Nat.{ℕ}
+use Prim.Native.Nat.{ℕ, _≤_, _<_}
 use mathlib.Core.Path.{_≡_, refl, subst}
 use mathlib.Core.Bool.{Bool, true, false, not}
-use native.Mathlib.Nat.{le-antisymm}
+use mathlib.Core.Logic.{⊎-elim}
+use native.Mathlib.Nat.{le-antisymm, le-trans}
 use native.Mathlib.Omega.{arith}
-use Rattle.curve.specs.Answers.{Least, Exactly}
+use lib.Dec.{leb}
+use borrow.Author.Tests.{leb-true, leb-false}
+use Rattle.curve.proofs.Laws.Order.{le-or-lt}
+use Rattle.curve.specs.Answers.{Least, NotBefore, Exactly}
 
 -- the answer was true, or false
 pub told-yes : (b : Bool) {P : Type 0} → Exactly b P → b ≡ true → P
@@ -35,6 +39,14 @@ pub exactly-iff : (b : Bool) {P Q : Type 0} → (P → Q) → (Q → P) → Exac
 exactly-iff true f g h = f h
 exactly-iff false f g h = λ q. h (g q)
 
+-- a comparison's answer says exactly whether it holds
+pub leb-exactly : (a : ℕ) {b x : ℕ} → b ≡ x → Exactly (leb a b) (a ≤ x)
+leb-exactly a {b} {x} q = by (leb a b) refl
+  where
+    by : (t : Bool) → leb a b ≡ t → Exactly t (a ≤ x)
+    by true e = omega (arith, leb-true a b e)
+    by false e = λ h. omega (arith, leb-false a b e)
+
 -- a least number is one number
 pub least-one : {P : ℕ → Type 0} {t u : ℕ} → Least P t → Least P u → t ≡ u
 least-one {t = t} {u = u} h k = le-antisymm (h .least u (k .holds)) (k .least t (h .holds))
@@ -42,3 +54,25 @@ least-one {t = t} {u = u} h k = le-antisymm (h .least u (k .holds)) (k .least t 
 -- it is the least of what holds just where P does
 pub least-iff : {P Q : ℕ → Type 0} {t : ℕ} → ((u : ℕ) → P u → Q u) → ((u : ℕ) → Q u → P u) → Least P t → Least Q t
 least-iff {t = t} f g h = record { holds = f t (h .holds); least = λ u q. h .least u (g u q) }
+
+-- the least number not before 0 is the least of all
+pub least-from-zero : {P : ℕ → Type 0} {t : ℕ} → Least (NotBefore 0 P) t → Least P t
+least-from-zero = least-iff (λ u h. h .holds) (λ u p. record { after = omega arith; holds = p })
+
+-- so is the least not before another that it passes, if what holds once holds ever after
+pub least-from : {P : ℕ → Type 0} {from t : ℕ} → ((u v : ℕ) → u ≤ v → P u → P v) → Least (NotBefore from P) t → from < t → Least P t
+least-from {P} {from} {t} on h l =
+    record {
+      holds = h .holds .holds;
+      least = λ u p. ⊎-elim (λ k. h .least u (record { after = k; holds = p }))
+          (λ k. absurd (omega (arith, h .least from (record { after = omega arith; holds = on u from (omega arith) p })))) (le-or-lt from u);
+    }
+
+-- the least at which two things hold that, once they do, hold ever after: the least for the second, not before the least for the first
+pub least-after : {P Q R : ℕ → Type 0} {from a b : ℕ} → ((u v : ℕ) → u ≤ v → P u → P v) → ((t : ℕ) → P t → Q t → R t) → ((t : ℕ) → R t → P t) → ((t : ℕ) → R t → Q t)
+    → Least (NotBefore from P) a → Least (NotBefore a Q) b → Least (NotBefore from R) b
+least-after {a = a} {b = b} on both first second h k =
+    record {
+      holds = record { after = le-trans (h .holds .after) (k .holds .after); holds = both b (on a b (k .holds .after) (h .holds .holds)) (k .holds .holds) };
+      least = λ u r. k .least u (record { after = h .least u (record { after = r .after; holds = first u (r .holds) }); holds = second u (r .holds) });
+    }

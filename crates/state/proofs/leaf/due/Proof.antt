@@ -22,6 +22,9 @@ add-bytes c =
     let start = read .before .before in
     omega (arith, c .weigh .ensures, weigh-small (start .args .length) (start .pre .4), read .get .ensures, start .pre .3)
 
+get-requires-2 : tie.Need-get-requires-2
+get-requires-2 c κs = search needs
+
 kept-of-requires : tie.Need-kept-of-requires
 kept-of-requires c κs = search needs
 
@@ -31,7 +34,7 @@ curve-of-requires c κs = search needs
 deadline-requires : tie.Need-deadline-requires
 deadline-requires c κs =
     let kept = c .before .before in
-    let weighed = kept .before .before in
+    let weighed = kept .before .before .before .before in
     let read = weighed .before in
     let start = read .before .before in
     let pre = start .pre in (
@@ -49,7 +52,7 @@ returns c =
     let asked = c .before .before in
     let curve = asked .before in
     let kept = curve .before .before in
-    let weighed = kept .before .before in
+    let weighed = kept .before .before .before .before in
     let read = weighed .before in
     record {
       deadline = asked .deadline .result;
@@ -60,4 +63,4 @@ returns c =
 pub due-spec : {M : Type 1} → statement M
 due-spec =
     tie.close
-    (tie.spec get-requires weigh-requires add-bytes kept-of-requires curve-of-requires deadline-requires put-requires returns)
+    (tie.spec get-requires weigh-requires add-bytes get-requires-2 kept-of-requires curve-of-requires deadline-requires put-requires returns)
