@@ -69,9 +69,10 @@ static void bursts(uint32_t above, uint32_t leaves, uint32_t pairs) {
     }
 }
 
-/* Two packets for each leaf, then after each departure one for the same leaf: each always has some. */
-static void refills(uint32_t above, uint32_t leaves, uint32_t pairs) {
-    for (int twice = 0; twice < 2; twice++)
+/* Some packets for each leaf, then after each departure one for the same leaf: with two each always has some, with one each is
+   emptied and filled again. */
+static void refills(uint32_t above, uint32_t leaves, uint32_t pairs, int each) {
+    while (each--)
         for (uint32_t i = 0; i < leaves; i++) arrives(above + 1 + i, 0);
     while (pairs--) {
         departs();
@@ -81,7 +82,7 @@ static void refills(uint32_t above, uint32_t leaves, uint32_t pairs) {
 
 int main(int argc, char **argv) {
     if (argc != 6) {
-        fprintf(stderr, "usage: %s flat|deep LEAVES bursty|waiting CALLS SEED\n", argv[0]);
+        fprintf(stderr, "usage: %s flat|deep LEAVES bursty|waiting|emptied CALLS SEED\n", argv[0]);
         return 2;
     }
     uint32_t above = strcmp(argv[1], "deep") ? 0 : 7, leaves = atoi(argv[2]), pairs = atoi(argv[4]) / 2;
@@ -90,8 +91,9 @@ int main(int argc, char **argv) {
     if (leaves > 63 - above) return 2;
     grow(&tree, above, leaves);
     if (hfsc_start(&s, &tree, 0)) return 1;
-    if (strcmp(argv[3], "waiting")) bursts(above, leaves, pairs);
-    else refills(above, leaves, pairs);
+    if (!strcmp(argv[3], "waiting")) refills(above, leaves, pairs, 2);
+    else if (!strcmp(argv[3], "emptied")) refills(above, leaves, pairs, 1);
+    else bursts(above, leaves, pairs);
     printf("left %" PRIu64 " sums %" PRIu64 " %" PRIu64 "\n", left, sum, mix);
     return 0;
 }

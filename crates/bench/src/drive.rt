@@ -125,7 +125,8 @@ pub fn stock(words: &mut Words, lengths: &mut Lengths, run: Run, above: u8, leav
     then
 }
 
-// After each departure a packet arrives for the same leaf: where each had two, each always has some.
+// After each departure a packet arrives for the same leaf: where each had two, each always has some,
+// where each had one, each is emptied and filled again.
 pub fn refills(words: &mut Words, lengths: &mut Lengths, run: Run, pairs: u32) -> Run
     requires { ⌜ Reached (now words) (now lengths) ⌝ }
 {

@@ -32,7 +32,7 @@ fn print(word: &[u8], n: u64) {
     io::print_decimal(libc::STDOUT_FILENO, n);
 }
 
-// flat|deep LEAVES bursty|waiting CALLS SEED: flat has at most 63 leaves, deep at most 56.
+// flat|deep LEAVES bursty|waiting|emptied CALLS SEED: flat has at most 63 leaves, deep at most 56.
 fn main() {
     let mut words = [0u64; 1536];
     let mut lengths = [0u16; 4096];
@@ -53,6 +53,9 @@ fn main() {
     sched::start(trees::grown(above, leaves), 0, &mut words, &mut lengths);
     if is(3, b"waiting") {
         run = drive::stock(&mut words, &mut lengths, run, above, leaves);
+        run = drive::stock(&mut words, &mut lengths, run, above, leaves);
+        run = drive::refills(&mut words, &mut lengths, run, pairs);
+    } else if is(3, b"emptied") {
         run = drive::stock(&mut words, &mut lengths, run, above, leaves);
         run = drive::refills(&mut words, &mut lengths, run, pairs);
     } else {
