@@ -43,7 +43,7 @@ use Rattle.state.proofs.Choosing.{count-most}
 use Rattle.state.proofs.LeafCells.{stored, kept-in, tree-cells, fair-cells}
 use Rattle.sched.proofs.ArrivingSlots.{slots-came}
 use Rattle.sched.proofs.ArrivingLeaf.{number-own, number-other, same-self, same-other, same-waiting, leaf-cells, timed-leaf, leaf-timed}
-use Rattle.state.proofs.WakingFair.{fair-came-on}
+use Rattle.fair.proofs.WakingFair.{fair-came-on}
 
 -- 14 and 15
 

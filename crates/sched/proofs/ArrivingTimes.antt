@@ -29,7 +29,8 @@ use Rattle.rules.proofs.Leaves.{pieces-in-order}
 use Rattle.state.specs.Table.{at}
 use Rattle.state.specs.Columns.{KIND, BYTES-RT, ELIGIBLE, DEADLINE}
 use Rattle.state.specs.State.{keptFor, ShowsTree}
-use Rattle.state.specs.Steps.{curveIn, keptIn, withKept, DueStored, RipeStored, NarrowCurve, KeptSoon, BeforeWaking, AfterWaking}
+use Rattle.state.specs.Steps.{curveIn, keptIn, withKept, DueStored, RipeStored, NarrowCurve, KeptSoon}
+use Rattle.fair.specs.Steps.{BeforeWaking, AfterWaking}
 use Rattle.state.specs.Steps.{LeafOnly}
 use Rattle.sched.specs.StepsArriving.{BeforeBegin, AfterTiming, AfterBegin}
 use Rattle.state.proofs.Cells.{at-with-same, at-with-column}

@@ -29,7 +29,8 @@ use Rattle.rules.proofs.Leaves.{pieces-in-order, has-piece}
 use Rattle.state.specs.Table.{at, with}
 use Rattle.state.specs.Columns.{KIND, CAME, LEFT, BYTES-RT, STEEP-START, STEEP-SENT, FLAT-START, FLAT-SENT, ELIGIBLE, DEADLINE, ACTIVE, NEVER}
 use Rattle.state.specs.State.{keptFor, hasTimes, ShowsTree}
-use Rattle.state.specs.Steps.{curveIn, keptIn, RipeStored, DueStored, Planted, BeforeRest, AfterRest}
+use Rattle.state.specs.Steps.{curveIn, keptIn, RipeStored, DueStored}
+use Rattle.fair.specs.Steps.{Planted, BeforeRest, AfterRest}
 use Rattle.state.specs.Steps.{LeafOnly}
 use Rattle.sched.specs.StepsDeparting.{Timable, Ripened, NextTimed, untimed, timed, ShowsTimes, BeforeSettle, AfterSettle}
 use Rattle.state.proofs.Cells.{at-with-same, at-with-column}

@@ -32,12 +32,12 @@ use Rattle.rules.proofs.Sent.{number-below-accepted, accepted-most, due-below-a
 use Rattle.state.specs.Table.{at, with}
 use Rattle.state.specs.Columns.{HEADER, BYTES, COUNT, KIND, CAME, LEFT, BYTES-RT, STEEP-START, STEEP-SENT, FLAT-START, FLAT-SENT, ELIGIBLE, DEADLINE, ACTIVE}
 use Rattle.state.specs.State.{hasTimes, ShowsLeaf, ShowsSlots, Shows}
-use Rattle.state.specs.Steps.{BeforeRaise, AfterRaise}
+use Rattle.fair.specs.Steps.{BeforeRaise, AfterRaise}
 use Rattle.sched.specs.StepsArriving.{ShowsButClock}
 use Rattle.sched.specs.StepsDeparting.{counted, pickTimes, timesIn, BeforeSettle, AfterSettle}
 use Rattle.state.proofs.Cells.{length-with, at-with-same, at-with-class, at-with-column}
 use Rattle.state.proofs.LeafCells.{kind-none, kind-some, kept-in, tree-cells, fair-cells}
-use Rattle.state.proofs.RestingLift.{fair-left}
+use Rattle.fair.proofs.RestingLift.{fair-left}
 use Rattle.state.proofs.Choosing.{count-most}
 use Rattle.state.proofs.ChoosingDown.{right-tree}
 use Rattle.sched.proofs.Departing.{number-left, next-left, bytes-fair, bytes-real, leaf-left-other, slots-left, slots-other, head-at}

@@ -25,7 +25,8 @@ use Rattle.state.specs.declared.ticks.Moment.the-variants.{At}
 use Rattle.state.specs.Table.{at}
 use Rattle.state.specs.Columns.{HEADER, CLOCK, STAMP, BYTES, COUNT, BYTES-RT, ELIGIBLE, DEADLINE, NEVER}
 use Rattle.state.specs.State.{keptFor, ShowsTree, ShowsLeaf, ShowsFair, ShowsSlots, Shows, Reached}
-use Rattle.state.specs.Steps.{keptIn, Planted, tickOf, LeafOnly}
+use Rattle.state.specs.Steps.{keptIn, tickOf, LeafOnly}
+use Rattle.fair.specs.Steps.{Planted}
 
 -- a table of a state, whatever lengths stand beside it
 pub record Shown (m : List ℕ) : Type 0 where

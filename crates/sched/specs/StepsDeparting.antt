@@ -22,7 +22,8 @@ use Rattle.rules.specs.Answers.{IsHead, withCall}
 use Rattle.state.specs.Table.{at, with}
 use Rattle.state.specs.Columns.{KIND, CAME, LEFT, BYTES-RT, ELIGIBLE, DEADLINE, ACTIVE, NEVER}
 use Rattle.state.specs.State.{keptFor, hasTimes, activity, ShowsSlots, Shows}
-use Rattle.state.specs.Steps.{curveIn, keptIn, NarrowCurve, KeptSoon, RipeStored, DueStored, Planted}
+use Rattle.state.specs.Steps.{curveIn, keptIn, NarrowCurve, KeptSoon, RipeStored, DueStored}
+use Rattle.fair.specs.Steps.{Planted}
 use Rattle.sched.specs.StepsArriving.{ShowsButClock}
 
 -- A departure. The head of leaf j leaves at tick t by rule r.

@@ -1,6 +1,9 @@
 // The scheduler. Its state is two arrays that the host lends and keeps: a table of words by columns, and
 // the lengths of the packets that wait. Every call changes them in place, and leaves them as they were
 // where it refuses.
+use fair::raise;
+use fair::rest;
+use fair::wake;
 use rules::Arrival;
 use rules::Departure;
 use rules::Packet;
@@ -8,9 +11,6 @@ use rules::Rule;
 use rules::Times;
 use state::choice::Choice;
 use state::choice::choose;
-use state::fair::raise;
-use state::fair::rest;
-use state::fair::wake;
 use state::leaf::add_piece;
 use state::leaf::due;
 use state::leaf::ripen;

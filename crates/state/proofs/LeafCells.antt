@@ -33,8 +33,7 @@ use Rattle.rules.proofs.Leaves.{pieces-in-order}
 use Rattle.state.specs.Table.{at, with}
 use Rattle.state.specs.Columns.{PARENT, SHARE, KIND, RATE, BEND, LAST, CHILD, SIBLING, SENT, FAIR-START, FAIR-SENT, VIRTUAL, MARK, ACTIVE, STEEP-START, STEEP-SENT, FLAT-START, FLAT-SENT}
 use Rattle.state.specs.State.{kindOf, secondRate, keptFor, noKept, ShowsTree, ShowsLeaf, ShowsFair}
-use Rattle.state.specs.Steps.{curveBy, curveIn, keptIn, withKept, NarrowCurve, KeptSoon}
-use Rattle.state.specs.Steps.{LeafOnly}
+use Rattle.state.specs.Steps.{curveBy, curveIn, keptIn, withKept, NarrowCurve, KeptSoon, LeafOnly}
 use Rattle.state.proofs.Cells.{length-with, at-with-same, at-with-class, at-with-column}
 
 -- a store after others

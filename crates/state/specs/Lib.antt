@@ -4,7 +4,5 @@ pub mod Columns
 pub mod State
 -- What the steps promise to the scheduler and one another: no host's promise cites these.
 pub mod Steps
-pub mod StepsResting
-pub mod StepsWaking
 pub mod Planting
 pub mod StepsChoosing

@@ -68,7 +68,8 @@ pub fn get(words: &[u64; 1536], class: usize, column: usize) -> u64
     requires { ⌜ (class < 64) × (column < 24) ⌝ }
     ensures { λ r. ⌜ r ≡ at (now (words .entry)) class column ⌝ }
 {
-    words[64 * column + class]
+    let from = 64 * column + class;
+    words[from]
 }
 
 // The table with another value there.
@@ -76,5 +77,6 @@ pub fn put(words: &mut [u64; 1536], class: usize, column: usize, value: u64)
     requires { ⌜ (class < 64) × (column < 24) ⌝ }
     ensures { λ r. ⌜ now (words .exit) ≡ with (now (words .entry)) class column value ⌝ }
 {
-    words[64 * column + class] = value;
+    let to = 64 * column + class;
+    words[to] = value;
 }

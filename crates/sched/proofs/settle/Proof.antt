@@ -7,11 +7,12 @@ use mathlib.Core.List.{List, _∷_}
 use native.Mathlib.Omega.{arith}
 use lib.ListN.{getD}
 use Rattle.tree.specs.declared.Tree.{Tree}
+use Rattle.rules.specs.Limits.{longest}
 use Rattle.rules.specs.Calls.{Call, left}
 use Rattle.rules.specs.Queues.{waits, headLength}
 use Rattle.state.specs.Table.{at, with}
 use Rattle.state.specs.Columns.{CAME, LEFT, ELIGIBLE, DEADLINE, NEVER}
-use Rattle.state.specs.Steps.{BeforeRest, AfterRest}
+use Rattle.fair.specs.Steps.{BeforeRest, AfterRest}
 use Rattle.sched.specs.StepsDeparting.{BeforeSettle}
 use Rattle.sched.proofs.DepartingNext.{settle-class, next-waits, none-waits, next-length, next-short, next-timable, settled-next, settled-last, before-rest}
 use Rattle.sched.proofs.settle.Statement.{statement}
@@ -43,7 +44,7 @@ module _ (c : tie.After-slot) {tree : Tree} {cs : List Call} {t : ℕ}
       (c .slot .ensures ∙ ap (λ (x : ℕ). 64 * start c .args .class + x % 64) (c .before .before .before .before .get .ensures))
       ∙ next-length b still
 
-  short : getD (start c .args .lengths .now) (c .slot .result) 0 ≤ 9000
+  short : getD (start c .args .lengths .now) (c .slot .result) 0 ≤ longest
   short = omega (arith, value, next-short b still)
 
 mul-length : tie.Need-mul-length

@@ -13,7 +13,7 @@ use Rattle.rules.specs.Answers.{TimesOf, withCall}
 use Rattle.state.specs.Table.{at, with}
 use Rattle.state.specs.Columns.{LEFT, BYTES-RT}
 use Rattle.state.specs.State.{Shows}
-use Rattle.state.specs.Steps.{BeforeRaise, AfterRaise}
+use Rattle.fair.specs.Steps.{BeforeRaise, AfterRaise}
 use Rattle.sched.specs.StepsArriving.{ShowsButClock}
 use Rattle.sched.specs.StepsDeparting.{counted, BeforeSettle}
 use Rattle.state.proofs.Cells.{at-with-column}

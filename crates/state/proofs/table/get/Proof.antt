@@ -6,14 +6,14 @@ use borrow.Author.Needs.{needs}
 use Rattle.state.proofs.table.get.Statement.{statement}
 use Rattle.state.proofs.table.get.Tie as tie
 
+mul-from : tie.Need-mul-from
+mul-from c = search needs
+
+add-from : tie.Need-add-from
+add-from c = search needs
+
 mul-result : tie.Need-mul-result
 mul-result c = search needs
-
-add-result : tie.Need-add-result
-add-result c = search needs
-
-mul-result-2 : tie.Need-mul-result-2
-mul-result-2 c = search needs
 
 element-copy-out-result : tie.Need-element-copy-out-result
 element-copy-out-result c = search needs
@@ -23,4 +23,4 @@ unfolding at
 returns c = refl
 
 pub get-spec : {M : Type 1} → statement M
-get-spec = tie.close (tie.spec mul-result add-result mul-result-2 element-copy-out-result returns)
+get-spec = tie.close (tie.spec mul-from add-from mul-result element-copy-out-result returns)
