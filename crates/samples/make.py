@@ -1,5 +1,5 @@
 #!/usr/bin/env python3
-"""Writes the sample class-tree files in data/, and args and stdout beside them, from what each file is meant to be: run it in this folder."""
+"""Writes the sample class-tree files in data/, and args and stdout beside them, from what each file is meant to be and document 01: run it in this folder."""
 import pathlib, struct
 out = pathlib.Path(__file__).resolve().parent
 (out / "data").mkdir(parents=True, exist_ok=True)
@@ -24,15 +24,21 @@ SMALLEST = [ROOT, (0, 65536, 1, 65536)]
 TREE_A = [ROOT, (0, 16384, 2, 32768, 2000, 16384), (0, 49152, 3, 2000, 32768)]
 NAMES = {0: "none", 1: "straight", 2: "front-loaded", 3: "delayed"}
 
-def shown(classes):
+def shown(classes, order=">"):
+    """The tree, and no class beyond the last number there can be; then its file is written big-endian with more room than it takes and with just so much, 17 with a byte less, and 7 where the last class has no share."""
     lines = ["tree"]
     for i, c in enumerate(classes):
         numbers = "".join(f" {n}" for n in c[3:])
         lines.append(f"class {i} parent {c[0]} share {c[1]} {NAMES[c[2]]}{numbers}")
-    return lines
+    written = f"written {len(pack(words_of(classes)))}, {'as' if order == '>' else 'not as'} the file, none beyond"
+    return lines + ["at 64: parent 0 share 0", written, written] + unwritten(17) + unwritten(7, len(classes) - 1)
+
+def unwritten(number, cls=0):
+    return [f"refused {number} class {cls}", "none written"]
 
 def refused(number, cls=0):
-    return [f"refused {number} class {cls}"]
+    """A refusal gives a tree of no classes, which the writer refuses with 4."""
+    return [f"refused {number} class {cls}"] + unwritten(4)
 
 chain9 = [ROOT] + [(i, 1, 0) for i in range(0, 9)]          # class 9 has depth 9
 chain8 = [ROOT] + [(i, 1, 0) for i in range(0, 8)]          # class 8 has depth 8
@@ -44,9 +50,9 @@ def sample(name, data, lines):
 
 a = words_of(TREE_A)
 sample("smallest_big", pack(words_of(SMALLEST)), shown(SMALLEST))
-sample("smallest_little", pack(words_of(SMALLEST), "<"), shown(SMALLEST))
+sample("smallest_little", pack(words_of(SMALLEST), "<"), shown(SMALLEST, "<"))
 sample("tree_a_big", pack(a), shown(TREE_A))
-sample("tree_a_little", pack(a, "<"), shown(TREE_A))
+sample("tree_a_little", pack(a, "<"), shown(TREE_A, "<"))
 sample("depth_8", pack(words_of(chain8)), shown(chain8))
 sample("longest", pack(words_of(full)), shown(full))
 sample("empty", b"", refused(1))

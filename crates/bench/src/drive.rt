@@ -2,14 +2,12 @@
 use rules::Packet;
 use rules::Rule;
 use rules::Times;
+use state::table::Lengths;
+use state::table::Words;
 ghost use Rattle.state.specs.State.{Reached};
 
-type Words = [u64; 1536];
-
-type Lengths = [u16; 4096];
-
 // The tree; the generator's last number; the last stamp; the packet that left last; the sums.
-pub struct Run {
+pub struct Tally {
     pub above: u8,
     pub leaves: u8,
     pub seed: u32,
@@ -27,14 +25,14 @@ fn next(seed: u32) -> u32 {
 }
 
 // The sums with one number more: the second depends on the order.
-fn noted(run: Run, number: u64) -> Run {
+fn noted(run: Tally, number: u64) -> Tally {
     let mut then = run;
     then.sum = std::num::wrapping_add_u64(run.sum, number);
     then.mix = std::num::wrapping_add_u64(run.mix, then.sum);
     then
 }
 
-fn noted_packet(run: Run, packet: Packet) -> Run {
+fn noted_packet(run: Tally, packet: Packet) -> Tally {
     let mut then = noted(noted(run, packet.class as u64), packet.number);
     then.class = packet.class;
     then.length = packet.length;
@@ -51,7 +49,7 @@ fn noted_packet(run: Run, packet: Packet) -> Run {
 }
 
 // A packet arrives after a pause.
-fn arrives(words: &mut Words, lengths: &mut Lengths, run: Run, class: u32, pause: u32) -> Run
+fn arrives(words: &mut Words, lengths: &mut Lengths, run: Tally, class: u32, pause: u32) -> Tally
     requires { ⌜ Reached (now words) (now lengths) ⌝ }
     ensures { λ r. ⌜ Reached (now (words .exit)) (now (lengths .exit)) ⌝ }
 {
@@ -67,7 +65,7 @@ fn arrives(words: &mut Words, lengths: &mut Lengths, run: Run, class: u32, pause
 }
 
 // The link asks again as soon as the last packet is sent.
-fn departs(words: &mut Words, lengths: &mut Lengths, run: Run) -> Run
+fn departs(words: &mut Words, lengths: &mut Lengths, run: Tally) -> Tally
     requires { ⌜ Reached (now words) (now lengths) ⌝ }
     ensures { λ r. ⌜ Reached (now (words .exit)) (now (lengths .exit)) ⌝ }
 {
@@ -85,7 +83,7 @@ fn any_leaf(seed: u32, above: u8, leaves: u8) -> u32 {
 }
 
 // 20 arrivals, or 20 departures.
-fn twenty(words: &mut Words, lengths: &mut Lengths, run: Run, arriving: bool) -> Run
+fn twenty(words: &mut Words, lengths: &mut Lengths, run: Tally, arriving: bool) -> Tally
     requires { ⌜ Reached (now words) (now lengths) ⌝ }
     ensures { λ r. ⌜ Reached (now (words .exit)) (now (lengths .exit)) ⌝ }
 {
@@ -102,7 +100,7 @@ fn twenty(words: &mut Words, lengths: &mut Lengths, run: Run, arriving: bool) ->
 }
 
 // Bursts: all packets of one have left before the next comes.
-pub fn bursts(words: &mut Words, lengths: &mut Lengths, run: Run, pairs: u32) -> Run
+pub fn bursts(words: &mut Words, lengths: &mut Lengths, run: Tally, pairs: u32) -> Tally
     requires { ⌜ Reached (now words) (now lengths) ⌝ }
 {
     let mut then = run;
@@ -114,7 +112,7 @@ pub fn bursts(words: &mut Words, lengths: &mut Lengths, run: Run, pairs: u32) ->
 }
 
 // A packet for each leaf.
-pub fn stock(words: &mut Words, lengths: &mut Lengths, run: Run, above: u8, leaves: u8) -> Run
+pub fn stock(words: &mut Words, lengths: &mut Lengths, run: Tally, above: u8, leaves: u8) -> Tally
     requires { ⌜ Reached (now words) (now lengths) ⌝ }
     ensures { λ r. ⌜ Reached (now (words .exit)) (now (lengths .exit)) ⌝ }
 {
@@ -127,13 +125,42 @@ pub fn stock(words: &mut Words, lengths: &mut Lengths, run: Run, above: u8, leav
 
 // After each departure a packet arrives for the same leaf: where each had two, each always has some,
 // where each had one, each is emptied and filled again.
-pub fn refills(words: &mut Words, lengths: &mut Lengths, run: Run, pairs: u32) -> Run
+pub fn refills(words: &mut Words, lengths: &mut Lengths, run: Tally, pairs: u32) -> Tally
     requires { ⌜ Reached (now words) (now lengths) ⌝ }
 {
     let mut then = run;
     for _i in 0..pairs {
         then = departs(words, lengths, then);
         then = arrives(words, lengths, then, then.class, 0);
+    }
+    then
+}
+
+// A packet of so many bytes for the first leaf: the number of its refusal, or 0.
+pub fn offered(words: &mut Words, lengths: &mut Lengths, run: Tally, length: u32) -> u32
+    requires { ⌜ Reached (now words) (now lengths) ⌝ }
+    ensures { λ r. ⌜ Reached (now (words .exit)) (now (lengths .exit)) ⌝ }
+{
+    let class = run.above as u32 + 1;
+    let answer = sched::arrive(words, lengths, run.stamp, class, length);
+    if let rules::Arrival::Refused { why } = answer {
+        return tree::number(why);
+    }
+    0
+}
+
+// Packets of 9,000 bytes for the first leaf, each of which leaves before the next comes, until one is refused.
+pub fn fill(words: &mut Words, lengths: &mut Lengths, run: Tally, pairs: u32) -> Tally
+    requires { ⌜ Reached (now words) (now lengths) ⌝ }
+    ensures { λ r. ⌜ Reached (now (words .exit)) (now (lengths .exit)) ⌝ }
+{
+    let mut then = run;
+    for _i in 0..pairs {
+        let refusal = offered(words, lengths, then, 9000);
+        if refusal != 0 {
+            return then;
+        }
+        then = departs(words, lengths, then);
     }
     then
 }

@@ -1,7 +1,14 @@
 // Makes its own calls of the scheduler, in memory, and prints one line: how many packets left, and two
 // sums over all answers. bench/ of the repository has the same in C, which prints the same line.
+use state::table::CELLS;
+use state::table::Lengths;
+use state::table::PLACES;
+use state::table::Words;
+
 mod drive;
 mod trees;
+
+ghost use Rattle.state.specs.State.{Reached};
 
 // Whether that argument is the word.
 fn is(at: usize, word: &[u8]) -> bool {
@@ -32,14 +39,43 @@ fn print(word: &[u8], n: u64) {
     io::print_decimal(libc::STDOUT_FILENO, n);
 }
 
-// flat|deep LEAVES bursty|waiting|emptied CALLS SEED: flat has at most 63 leaves, deep at most 56.
+// How many classes besides the root stand above the leaves.
+fn above() -> u8 {
+    if is(1, b"deep") {
+        return 7;
+    }
+    if is(1, b"wide") {
+        return trees::WIDE;
+    }
+    0
+}
+
+// At the end of all bytes: which of these lengths is refused, and with which number. 5,776 bytes are left of 2^40 after
+// as many packets of 9,000 as fit.
+fn print_full(words: &mut Words, lengths: &mut Lengths, run: drive::Tally)
+    requires { ⌜ Reached (now words) (now lengths) ⌝ }
+{
+    print(b"9000: ", drive::offered(words, lengths, run, 9000) as u64);
+    print(
+        b", 5777: ",
+        drive::offered(words, lengths, run, 5777) as u64,
+    );
+    print(
+        b", 5776: ",
+        drive::offered(words, lengths, run, 5776) as u64,
+    );
+    print(b", 1: ", drive::offered(words, lengths, run, 1) as u64);
+    io::write_all(libc::STDOUT_FILENO, b"\n");
+}
+
+// flat|deep|wide LEAVES bursty|waiting|emptied|full CALLS SEED: flat has at most 63 leaves, deep 56, wide 43.
 fn main() {
-    let mut words = [0u64; 1536];
-    let mut lengths = [0u16; 4096];
-    let above: u8 = if is(1, b"deep") { 7 } else { 0 };
+    let mut words = [0u64; CELLS];
+    let mut lengths = [0u16; PLACES];
+    let above = above();
     let leaves = (number_at(2) % 64) as u8;
     let pairs = number_at(4) / 2;
-    let mut run = drive::Run {
+    let mut run = drive::Tally {
         above,
         leaves,
         seed: number_at(5),
@@ -55,6 +91,9 @@ fn main() {
         run = drive::stock(&mut words, &mut lengths, run, above, leaves);
         run = drive::stock(&mut words, &mut lengths, run, above, leaves);
         run = drive::refills(&mut words, &mut lengths, run, pairs);
+    } else if is(3, b"full") {
+        run = drive::fill(&mut words, &mut lengths, run, pairs);
+        print_full(&mut words, &mut lengths, run);
     } else if is(3, b"emptied") {
         run = drive::stock(&mut words, &mut lengths, run, above, leaves);
         run = drive::refills(&mut words, &mut lengths, run, pairs);

@@ -10,3 +10,4 @@ pub mod Lists
 pub mod Kept
 pub mod Leaf
 pub mod Times
+pub mod Codec

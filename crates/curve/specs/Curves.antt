@@ -1,12 +1,16 @@
--- Document 01, "Units and limits" and "Curves": a curve's numbers, their limits, and S(t).
+-- Document 01, "Units and limits" and "Curves": a curve's numbers, their limits, and S(t); its slopes and its bend.
 -- Assumes nothing.
-use Prim.Native.Nat.{ℕ, _+_, _-_, _*_, _^_, _≤_, _<_, min}
+use Prim.Native.Nat.{ℕ, _+_, _-_, _*_, _≤_, _<_, min}
 use Rattle.curve.specs.declared.Curve.{Curve}
 use Rattle.curve.specs.declared.Curve.the-variants.{None, Straight, FrontLoaded, Delayed}
 
--- "65,536 parts are one byte per tick": n bytes in parts, and what the link sends in n ticks
+-- "65,536 parts are one byte per tick": the link's rate
+abbrev pub whole : ℕ
+whole = 65536
+
+-- n bytes in parts, and what the link sends in n ticks
 abbrev pub inParts : ℕ → ℕ
-inParts n = 65536 * n
+inParts n = whole * n
 
 -- a limit of the table: from low to high, both allowed
 pub record Within (low high x : ℕ) : Type 0 where
@@ -15,11 +19,14 @@ pub record Within (low high x : ℕ) : Type 0 where
 
 -- "rate or share: 1 to 65,536"
 abbrev pub RightRate : ℕ → Type 0
-RightRate m = Within 1 65536 m
+RightRate m = Within 1 whole m
 
 -- "bend of a curve: 1 to 1,048,576 ticks"
+abbrev pub latestBend : ℕ
+latestBend = 1048576
+
 abbrev pub RightBend : ℕ → Type 0
-RightBend d = Within 1 1048576 d
+RightBend d = Within 1 latestBend d
 
 -- "front-loaded, m1 > m2, bend d"
 pub record RightFront (m₁ d m₂ : ℕ) : Type 0 where
@@ -51,21 +58,29 @@ amount (Straight m) t = m * t
 amount (FrontLoaded m₁ d m₂) t = m₁ * min t d + m₂ * (t - d)
 amount (Delayed d m) t = m * (t - d)
 
+-- the slope before the bend, and after it; a delayed curve is taken d ticks later, where it has one slope
+abbrev pub firstSlope : Curve → ℕ
+firstSlope None = 0
+firstSlope (Straight m) = m
+firstSlope (FrontLoaded m₁ d m₂) = m₁
+firstSlope (Delayed d m) = m
+
+abbrev pub lastSlope : Curve → ℕ
+lastSlope None = 0
+lastSlope (Straight m) = m
+lastSlope (FrontLoaded m₁ d m₂) = m₂
+lastSlope (Delayed d m) = m
+
+-- the tick at which the slope changes, or 0
+abbrev pub bendOf : Curve → ℕ
+bendOf None = 0
+bendOf (Straight m) = 0
+bendOf (FrontLoaded m₁ d m₂) = d
+bendOf (Delayed d m) = d
+
 -- a curve that is there, within the limits: it reaches every amount at last
 unfoldable pub Rising : Curve → Type 0
 Rising None = ⊥
 Rising (Straight m) = RightRate m
 Rising (FrontLoaded m₁ d m₂) = RightFront m₁ d m₂
 Rising (Delayed d m) = RightDelay d m
-
--- the curve is at `parts` or above it at tick t
-abbrev pub Reaches : Curve → ℕ → ℕ → Type 0
-Reaches S parts t = parts ≤ amount S t
-
--- the most bytes that a question may be about: the 2^40 of "total bytes accepted", with room to spare
-abbrev pub mostBytes : ℕ
-mostBytes = 2 ^ 41
-
--- the latest tick, or virtual time, at which a piece may start
-abbrev pub mostStart : ℕ
-mostStart = 2 ^ 60

@@ -2,10 +2,8 @@
 -- Assumes nothing.
 use Prim.Native.Nat.{ℕ, _+_, _≤_}
 use mathlib.Core.List.{List, [], _∷_}
-use Rattle.curve.specs.Curves.{amount, inParts}
-use Rattle.curve.specs.Pieces.{lastSlope}
+use Rattle.curve.specs.Curves.{amount, inParts, lastSlope}
 use Rattle.curve.specs.declared.Curve.{Curve}
-use Rattle.curve.specs.declared.Curve.the-variants.{None, Straight, FrontLoaded, Delayed}
 
 -- the sum of a number that each curve has
 unfoldable pub sumOf : (Curve → ℕ) → List Curve → ℕ
@@ -19,13 +17,6 @@ total Ss t = sumOf (λ S. amount S t) Ss
 -- "at every whole t from 0 the sum of all S(t) is at most 65,536·t"
 unfoldable pub CurvesFit : List Curve → Type 0
 CurvesFit Ss = (t : ℕ) → total Ss t ≤ inParts t
-
--- the tick at which the slope changes, or 0
-abbrev pub bendOf : Curve → ℕ
-bendOf None = 0
-bendOf (Straight m) = 0
-bendOf (FrontLoaded m₁ d m₂) = d
-bendOf (Delayed d m) = d
 
 -- the sum of the last slopes
 abbrev pub slopes : List Curve → ℕ

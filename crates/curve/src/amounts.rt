@@ -1,10 +1,13 @@
 // What a curve has reached at a tick, its slopes, and whether its numbers are within the limits.
 use crate::Curve;
+use crate::LATEST_BEND;
+use crate::WHOLE;
 ghost use mathlib.Core.Path.{_≡_};
 ghost use Prim.Native.Nat.{_-_, _*_, _≤_, _<_, _^_};
 ghost use Rattle.curve.specs.Answers.{Exactly};
-ghost use Rattle.curve.specs.Curves.{Within, RightRate, RightFront, RightDelay, RightCurve, Rising, Reaches, amount, inParts, mostBytes};
-ghost use Rattle.curve.specs.Pieces.{firstSlope, lastSlope, early};
+ghost use Rattle.curve.specs.Curves.{Within, RightRate, RightBend, RightFront, RightDelay, Rising, amount, inParts, firstSlope, lastSlope};
+ghost use Rattle.curve.specs.Keeping.{Reaches, mostBytes, early};
+ghost use Rattle.curve.specs.Promises.{TellsRight};
 
 // Whether x is from low to high.
 fn within(low: u32, high: u32, x: u32) -> bool
@@ -20,15 +23,15 @@ fn within(low: u32, high: u32, x: u32) -> bool
 }
 
 fn right_rate(rate: u32) -> bool
-    ensures { λ r. ⌜ Exactly r (Within 1 65536 rate) ⌝ }
+    ensures { λ r. ⌜ Exactly r (RightRate rate) ⌝ }
 {
-    within(1, 65536, rate)
+    within(1, WHOLE, rate)
 }
 
 fn right_bend(bend: u32) -> bool
-    ensures { λ r. ⌜ Exactly r (Within 1 1048576 bend) ⌝ }
+    ensures { λ r. ⌜ Exactly r (RightBend bend) ⌝ }
 {
-    within(1, 1048576, bend)
+    within(1, LATEST_BEND, bend)
 }
 
 fn right_front(first: u32, bend: u32, last: u32) -> bool
@@ -63,7 +66,7 @@ fn right_delay(bend: u32, rate: u32) -> bool
 
 // Whether the curve's numbers are within the limits.
 pub fn right(curve: Curve) -> bool
-    ensures { λ r. ⌜ Exactly r (RightCurve curve) ⌝ }
+    ensures { λ r. ⌜ TellsRight curve r ⌝ }
 {
     match curve {
         Curve::None => true,
@@ -74,14 +77,14 @@ pub fn right(curve: Curve) -> bool
 }
 
 // a - b, or 0 where b is the larger.
-pub fn less(a: u64, b: u64) -> u64
+pub(crate) fn less(a: u64, b: u64) -> u64
     ensures { λ r. ⌜ r ≡ a - b ⌝ }
 {
     if a <= b { 0 } else { a - b }
 }
 
 // The parts that the curve has reached at a tick, where 64 bits hold them.
-pub fn reached(curve: Curve, tick: u64) -> u64
+pub(crate) fn reached(curve: Curve, tick: u64) -> u64
     requires { ⌜ amount curve tick < 2 ^ 64 ⌝ }
     ensures { λ r. ⌜ r ≡ amount curve tick ⌝ }
 {
@@ -119,14 +122,14 @@ pub(crate) fn has_reached(curve: Curve, parts: u64, tick: u64) -> bool
     requires { ⌜ Rising curve × (parts ≤ inParts mostBytes) ⌝ }
     ensures { λ r. ⌜ Exactly r (Reaches curve parts tick) ⌝ }
 {
-    if has_risen(last_slope(curve), less(tick, 1048576), parts) {
+    if has_risen(last_slope(curve), less(tick, LATEST_BEND as u64), parts) {
         return true;
     }
     parts <= reached(curve, tick)
 }
 
 // The slope before the bend.
-pub fn first_slope(curve: Curve) -> u32
+pub(crate) fn first_slope(curve: Curve) -> u32
     ensures { λ r. ⌜ r ≡ firstSlope curve ⌝ }
 {
     match curve {
@@ -142,7 +145,7 @@ pub fn first_slope(curve: Curve) -> u32
 }
 
 // The slope after the bend.
-pub fn last_slope(curve: Curve) -> u32
+pub(crate) fn last_slope(curve: Curve) -> u32
     ensures { λ r. ⌜ r ≡ lastSlope curve ⌝ }
 {
     match curve {
@@ -158,7 +161,7 @@ pub fn last_slope(curve: Curve) -> u32
 }
 
 // The curve that the eligible time goes by: a delayed one without its delay.
-pub fn undelayed(curve: Curve) -> Curve
+pub(crate) fn undelayed(curve: Curve) -> Curve
     ensures { λ r. ⌜ r ≡ early curve ⌝ }
 {
     match curve {

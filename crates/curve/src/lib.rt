@@ -3,9 +3,19 @@
 // classes, packets or files.
 
 pub mod amounts;
+pub mod codec;
 pub mod fit;
 pub mod pieces;
-pub mod search;
+mod search;
+
+// The parts that are one byte per tick: the link's rate, and the most that a rate or a share may be.
+pub const WHOLE: u32 = 65536;
+
+// The same in 64 bits: the parts of a byte, and what the link sends in a tick.
+pub(crate) const BYTE: u64 = WHOLE as u64;
+
+// The latest bend, in ticks.
+pub const LATEST_BEND: u32 = 1048576;
 
 // A real-time curve with its numbers: rates in parts, bends in ticks.
 pub enum Curve {

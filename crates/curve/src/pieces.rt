@@ -1,4 +1,5 @@
 // The pieces that are worth keeping, and what they are asked.
+use crate::BYTE;
 use crate::Curve;
 use crate::Kept;
 use crate::Piece;
@@ -8,18 +9,18 @@ use crate::amounts::last_slope;
 use crate::amounts::less;
 use crate::amounts::undelayed;
 use crate::search::earliest;
-ghost use mathlib.Core.Path.{_≡_};
 ghost use Prim.Native.Nat.{_≤_, _<_};
 ghost use Rattle.curve.specs.Answers.{Least, NotBefore};
-ghost use Rattle.curve.specs.Curves.{Rising, RightRate, mostBytes, mostStart};
-ghost use Rattle.curve.specs.Pieces.{Stands, BothStand, lowerOf, keptWith, early};
+ghost use Rattle.curve.specs.Curves.{Rising, RightRate};
+ghost use Rattle.curve.specs.Keeping.{mostBytes, mostStart, Stands, BothStand};
+ghost use Rattle.curve.specs.Promises.{LowerPiece, ArrivesAt, KeptAfter, DueAt, EligibleAt};
 
 // Of an old piece and a new one, the one that is lower on a line of that rate from there on.
 pub fn lower(rate: u32, old: Piece, new: Piece) -> Piece
     requires { ⌜ RightRate rate × (new .sent ≤ mostBytes) ⌝ }
-    ensures { λ r. ⌜ r ≡ lowerOf rate old new ⌝ }
+    ensures { λ r. ⌜ LowerPiece rate old new r ⌝ }
 {
-    let rise = 65536 * less(new.sent, old.sent);
+    let rise = BYTE * less(new.sent, old.sent);
     if has_risen(rate, less(new.start, old.start), rise) {
         new
     } else {
@@ -32,7 +33,7 @@ fn arrival_from(curve: Curve, piece: Piece, bytes: u64, from: u64) -> u64
     requires { ⌜ Rising curve × (bytes ≤ mostBytes) × (piece .start ≤ mostStart) ⌝ }
     ensures { λ r. ⌜ Least (NotBefore from (Stands curve piece bytes)) r ⌝ }
 {
-    let rise = 65536 * less(bytes, piece.sent);
+    let rise = BYTE * less(bytes, piece.sent);
     piece.start + earliest(curve, rise, less(from, piece.start))
 }
 
@@ -40,7 +41,7 @@ fn arrival_from(curve: Curve, piece: Piece, bytes: u64, from: u64) -> u64
 // from `near` on, so a tick close before it is found soonest; any gives the same answer.
 pub fn arrival(curve: Curve, piece: Piece, bytes: u64, near: u64) -> u64
     requires { ⌜ Rising curve × (bytes ≤ mostBytes) × (piece .start ≤ mostStart) ⌝ }
-    ensures { λ r. ⌜ Least (Stands curve piece bytes) r ⌝ }
+    ensures { λ r. ⌜ ArrivesAt curve piece bytes r ⌝ }
 {
     let from = less(near, 1);
     let tick = arrival_from(curve, piece, bytes, from);
@@ -63,7 +64,7 @@ fn both_from(curve: Curve, kept: Kept, bytes: u64, from: u64) -> u64
 // The earliest tick at which both pieces stand so, sought from `near` on as `arrival` does.
 fn both(curve: Curve, kept: Kept, bytes: u64, near: u64) -> u64
     requires { ⌜ Rising curve × (bytes ≤ mostBytes) × (kept .steep .start ≤ mostStart) × (kept .flat .start ≤ mostStart) ⌝ }
-    ensures { λ r. ⌜ Least (BothStand curve kept bytes) r ⌝ }
+    ensures { λ r. ⌜ DueAt curve kept bytes r ⌝ }
 {
     let from = less(near, 1);
     let due = both_from(curve, kept, bytes, from);
@@ -74,20 +75,10 @@ fn both(curve: Curve, kept: Kept, bytes: u64, near: u64) -> u64
 }
 
 impl Kept {
-    // What is kept of a first piece.
-    pub fn first(piece: Piece) -> Kept
-        ensures { λ r. ⌜ (r .steep ≡ piece) × (r .flat ≡ piece) ⌝ }
-    {
-        Kept {
-            steep: piece,
-            flat: piece,
-        }
-    }
-
     // What is kept after one piece more.
     pub fn with(self, curve: Curve, piece: Piece) -> Kept
         requires { ⌜ Rising curve × (piece .sent ≤ mostBytes) ⌝ }
-        ensures { λ r. ⌜ r ≡ keptWith curve self piece ⌝ }
+        ensures { λ r. ⌜ KeptAfter curve self piece r ⌝ }
     {
         let steep = self.steep;
         let flat = self.flat;
@@ -100,7 +91,7 @@ impl Kept {
     // The earliest tick at which that many bytes are due.
     pub fn deadline(self, curve: Curve, bytes: u64, near: u64) -> u64
         requires { ⌜ Rising curve × (bytes ≤ mostBytes) × (self .steep .start ≤ mostStart) × (self .flat .start ≤ mostStart) ⌝ }
-        ensures { λ r. ⌜ Least (BothStand curve self bytes) r ⌝ }
+        ensures { λ r. ⌜ DueAt curve self bytes r ⌝ }
     {
         both(curve, self, bytes, near)
     }
@@ -108,7 +99,7 @@ impl Kept {
     // The earliest tick at which the leaf may send more than that many bytes.
     pub fn eligible(self, curve: Curve, bytes: u64, near: u64) -> u64
         requires { ⌜ Rising curve × (bytes ≤ mostBytes) × (self .steep .start ≤ mostStart) × (self .flat .start ≤ mostStart) ⌝ }
-        ensures { λ r. ⌜ Least (BothStand (early curve) self bytes) r ⌝ }
+        ensures { λ r. ⌜ EligibleAt curve self bytes r ⌝ }
     {
         both(undelayed(curve), self, bytes, near)
     }

@@ -1,10 +1,12 @@
 // The earliest tick at which a curve has reached an amount.
+use crate::BYTE;
 use crate::Curve;
 use crate::amounts::has_reached;
 use crate::amounts::reached;
 ghost use Prim.Native.Nat.{_≤_, _<_, _^_};
 ghost use Rattle.curve.specs.Answers.{Least, NotBefore};
-ghost use Rattle.curve.specs.Curves.{Rising, Reaches, amount, inParts, mostBytes};
+ghost use Rattle.curve.specs.Curves.{Rising, amount, inParts};
+ghost use Rattle.curve.specs.Keeping.{Reaches, mostBytes};
 
 // A tick past `from`, found by steps that double, at which the curve has reached the parts. The first
 // step is what the missing parts take at the link's rate, the steepest that a curve can have.
@@ -12,7 +14,7 @@ fn late_enough(curve: Curve, parts: u64, from: u64) -> u64
     requires { ⌜ Rising curve × (parts ≤ inParts mostBytes) × (amount curve from < parts) ⌝ }
     ensures { λ r. ⌜ (from ≤ r) × Reaches curve parts r × (amount curve r < 2 ^ 64) ⌝ }
 {
-    let mut step = (parts - reached(curve, from)) / 65536 + 1;
+    let mut step = (parts - reached(curve, from)) / BYTE + 1;
     while reached(curve, from + step) < parts {
         step = 2 * step;
     }
@@ -39,7 +41,7 @@ fn halve(curve: Curve, parts: u64, soon: u64, late: u64) -> u64
 }
 
 // The earliest tick, not before `from`, at which the curve has reached the parts.
-pub fn earliest(curve: Curve, parts: u64, from: u64) -> u64
+pub(crate) fn earliest(curve: Curve, parts: u64, from: u64) -> u64
     requires { ⌜ Rising curve × (parts ≤ inParts mostBytes) ⌝ }
     ensures { λ r. ⌜ Least (NotBefore from (Reaches curve parts)) r ⌝ }
 {

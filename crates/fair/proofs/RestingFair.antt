@@ -9,8 +9,8 @@ use mathlib.Core.List.{List, [], _∷_}
 use lib.Dec.{eqb}
 use borrow.Author.Tests.{ne-eqb}
 use Rattle.curve.specs.Answers.{Least}
-use Rattle.curve.specs.Curves.{RightRate, mostStart}
-use Rattle.curve.specs.Pieces.{latestSent, lowest, Orderly, Stands}
+use Rattle.curve.specs.Curves.{RightRate}
+use Rattle.curve.specs.Keeping.{mostStart, latestSent, lowest, Orderly, Stands}
 use Rattle.curve.specs.declared.Curve.the-variants.{Straight}
 use Rattle.curve.specs.declared.Piece.{Piece}
 use Rattle.curve.proofs.Laws.Answers.{least-one}
@@ -23,13 +23,14 @@ use Rattle.rules.specs.Calls.{Call, came, left, idle}
 use Rattle.rules.specs.Queues.{queue, waits}
 use Rattle.rules.specs.Classes.{isWithin, sent, active, turnsActive}
 use Rattle.rules.specs.Fair.{mark, fairPieces, virtualTime, virtualTimeOf}
+use Rattle.rules.proofs.Allowed.{allowed-admitted}
 use Rattle.rules.specs.Lawful.{Grown, LawfulCalls}
 use Rattle.rules.proofs.Tests.{never, is-true, and-both, or-either, not-is, by-cond}
 use Rattle.rules.proofs.Trees.{leaf-class, a-child}
 use Rattle.rules.proofs.Queues.{waits-leaf}
 use Rattle.rules.proofs.Active.{active-of, active-which, active-came, active-left, active-idle}
 use Rattle.rules.proofs.Sent.{w-most}
-use Rattle.rules.proofs.Leaves.{Some}
+use Rattle.rules.proofs.Leaves.{HasPiece}
 use Rattle.rules.proofs.Fair.{fair-in-order, start-most}
 use Rattle.rules.proofs.Virtual.{virtual-is-least}
 use Rattle.state.specs.State.{fairKept}
@@ -56,7 +57,7 @@ unfolding virtualTime
 root-virtual tree cs = ap (λ (ps : List Piece). virtualTime (shareOf tree 0) ps (sent tree cs 0)) (root-pieces tree cs)
 
 -- the kept piece gives the virtual time
-pub kept-virtual : (share : ℕ) → RightRate share → (ps : List Piece) → Some ps → Orderly ps → (w v : ℕ) → latestSent ps ≤ w
+pub kept-virtual : (share : ℕ) → RightRate share → (ps : List Piece) → HasPiece ps → Orderly ps → (w v : ℕ) → latestSent ps ≤ w
     → Least (Stands (Straight share) (lowest share ps) w) v → v ≡ virtualTime share ps w
 kept-virtual share rate [] some order w v enough least = absurd some
 kept-virtual share rate (p ∷ ps) some order w v enough least =
@@ -65,15 +66,15 @@ kept-virtual share rate (p ∷ ps) some order w v enough least =
 pub share-right : (tree : Tree) → RightTree tree → (i : ℕ) → 0 < i → i < tree .count → RightRate (shareOf tree i)
 unfolding RightClass
 share-right tree whole zero some below = absurd (omega arith)
-share-right tree whole (suc i) some below = whole .bodies (suc i) below .share
+share-right tree whole (suc i) some below = whole .shape .bodies (suc i) below .share
 
 module _ (tree : Tree) (grown : Grown tree) where
   -- an active class other than the root has started
-  pub active-started : (cs : List Call) → LawfulCalls tree cs → (i : ℕ) → 0 < i → active tree cs i ≡ true → Some (fairPieces tree cs i)
+  pub active-started : (cs : List Call) → LawfulCalls tree cs → (i : ℕ) → 0 < i → active tree cs i ≡ true → HasPiece (fairPieces tree cs i)
   unfolding LawfulCalls fairPieces queue
   active-started [] law i some a = never (active-which tree [] i a .3) refl
   active-started (came t j n ∷ cs) law i some a =
-      by-cond Some (turnsActive tree cs j i) (λ e. tt)
+      by-cond HasPiece (turnsActive tree cs j i) (λ e. tt)
       (λ e.
       active-started cs (law .1) i some
       (⊎-elim
@@ -85,7 +86,7 @@ module _ (tree : Tree) (grown : Grown tree) where
       (and-both (isWithin tree i j) (not (active tree cs i)) w (not-is (active tree cs i) passive)))
       e))
       (λ (q : active tree cs i ≡ true). q)
-      (or-either (isWithin tree i j) (active tree cs i) (sym (active-came tree grown cs t j n i (leaf-class tree j (law .0 .1 .leaf))) ∙ a))))
+      (or-either (isWithin tree i j) (active tree cs i) (sym (active-came tree grown cs t j n i (leaf-class tree j (allowed-admitted (law .0) .leaf))) ∙ a))))
   active-started (left t j r ∷ cs) law i some a = active-started cs (law .1) i some (active-left tree grown cs t j r i a)
   active-started (idle t ∷ cs) law i some a = active-started cs (law .1) i some (sym (active-idle tree cs t i) ∙ a)
 

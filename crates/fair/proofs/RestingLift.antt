@@ -9,8 +9,8 @@ use mathlib.Core.Bool.{true, false}
 use mathlib.Core.List.{List, _∷_}
 use lib.ListN.{length}
 use Rattle.curve.specs.Answers.{Least}
-use Rattle.curve.specs.Curves.{RightRate, mostBytes}
-use Rattle.curve.specs.Pieces.{lowest, Stands}
+use Rattle.curve.specs.Curves.{RightRate}
+use Rattle.curve.specs.Keeping.{mostBytes, lowest, Stands}
 use Rattle.curve.specs.declared.Curve.the-variants.{Straight}
 use Rattle.curve.specs.declared.Piece.{Piece}
 use Rattle.tree.specs.declared.Tree.{Tree}
@@ -26,8 +26,8 @@ use Rattle.rules.proofs.Trees.{leaf-class, a-child, parent-lower, within-up, wi
 use Rattle.rules.proofs.Queues.{waits-leaf, head-length}
 use Rattle.rules.proofs.Sent.{w-most}
 use Rattle.rules.proofs.Fair.{sent-left, sent-left-other}
-use Rattle.state.specs.Table.{at, with}
-use Rattle.state.specs.Columns.{PARENT, SHARE, SENT, FAIR-START, FAIR-SENT, VIRTUAL, MARK, ACTIVE}
+use Rattle.state.specs.Table.{at, with, CLASSES, CELLS}
+use Rattle.state.specs.Columns.{PARENT, SHARE, SENT, FAIR-START, FAIR-SENT, VIRTUAL, MARK, ACTIVE, fairFrom}
 use Rattle.state.specs.State.{ShowsFair, activity, fairKept}
 use Rattle.fair.specs.Steps.{BeforeRaise, AfterRaise}
 use Rattle.fair.specs.StepsWaking.{Raises, VirtualStored}
@@ -48,8 +48,8 @@ module _ {m : List ℕ} {tree : Tree} {cs : List Call} {j bytes i : ℕ} (b : Be
   pub lifting-class : i < tree .count
   lifting-class = omega (arith, within-le tree grown i j leaf-below (b .line), leaf-below)
 
-  pub lifting-narrow : i < 64
-  lifting-narrow = omega (arith, lifting-class, b .planted .right .count .below)
+  pub lifting-narrow : i < CLASSES
+  lifting-narrow = omega (arith, lifting-class, b .planted .right .shape .count .below)
 
   self : isWithin tree i i ≡ true
   self = within-self tree grown i
@@ -71,13 +71,13 @@ module _ {m : List ℕ} {tree : Tree} {cs : List Call} {j bytes i : ℕ} (b : Be
   sum-there : at m₁ i SENT ≡ at m i SENT + bytes
   sum-there = at-with-same m i SENT (at m i SENT + bytes) (b .planted .size) lifting-narrow (omega arith)
 
-  sum-column : (k f : ℕ) → k < 64 → (f ≡ SENT → ⊥) → at m₁ k f ≡ at m k f
+  sum-column : (k f : ℕ) → k < CLASSES → (f ≡ SENT → ⊥) → at m₁ k f ≡ at m k f
   sum-column k f l other = at-with-column m i SENT (at m i SENT + bytes) k f lifting-narrow l other
 
-  sum-class : (k f : ℕ) → k < 64 → (k ≡ i → ⊥) → at m₁ k f ≡ at m k f
+  sum-class : (k f : ℕ) → k < CLASSES → (k ≡ i → ⊥) → at m₁ k f ≡ at m k f
   sum-class k f l other = at-with-class m i SENT (at m i SENT + bytes) k f lifting-narrow l other
 
-  sum-size : length m₁ ≡ 1536
+  sum-size : length m₁ ≡ CELLS
   sum-size = length-with m i SENT (at m i SENT + bytes) ∙ b .planted .size
 
   sum-after : (t : ℕ) (r : Rule) → at m i SENT + bytes ≡ sent tree (left t j r ∷ cs) i
@@ -139,7 +139,7 @@ module _ {m : List ℕ} {tree : Tree} {cs : List Call} {j bytes i : ℕ} (b : Be
       p-class : p < tree .count
       p-class = omega (arith, lifting-falls, lifting-class)
 
-      p-narrow : p < 64
+      p-narrow : p < CLASSES
       p-narrow = omega (arith, lifting-falls, lifting-narrow)
 
       child : isChild tree p i ≡ true
@@ -159,10 +159,10 @@ module _ {m : List ℕ} {tree : Tree} {cs : List Call} {j bytes i : ℕ} (b : Be
       not-p = is-false (isWithin tree i p) (λ e. omega (arith, p-lower i e))
 
       -- the two stores
-      column : (k f : ℕ) → k < 64 → (f ≡ SENT → ⊥) → (f ≡ VIRTUAL → ⊥) → at m₂ k f ≡ at m k f
+      column : (k f : ℕ) → k < CLASSES → (f ≡ SENT → ⊥) → (f ≡ VIRTUAL → ⊥) → at m₂ k f ≡ at m k f
       column k f l other other′ = rw (v .stored) (at-with-column m₁ i VIRTUAL (v .time) k f lifting-narrow l other′ ∙ sum-column k f l other)
 
-      class : (k f : ℕ) → k < 64 → (k ≡ i → ⊥) → at m₂ k f ≡ at m k f
+      class : (k f : ℕ) → k < CLASSES → (k ≡ i → ⊥) → at m₂ k f ≡ at m k f
       class k f l other = rw (v .stored) (at-with-class m₁ i VIRTUAL (v .time) k f lifting-narrow l other ∙ sum-class k f l other)
 
       stored-sent : at m₂ i SENT ≡ at m i SENT + bytes
@@ -251,8 +251,8 @@ module _ {m : List ℕ} {tree : Tree} {cs : List Call} {j bytes : ℕ} (b : Befo
   leaf-class′ : j < tree .count
   leaf-class′ = leaf-class tree j (waits-leaf tree cs (b .planted .lawful) j (b .waiting))
 
-  narrow : (k : ℕ) → k < tree .count → k < 64
-  narrow k l = omega (arith, l, b .planted .right .count .below)
+  narrow : (k : ℕ) → k < tree .count → k < CLASSES
+  narrow k l = omega (arith, l, b .planted .right .shape .count .below)
 
   class-of : (k : ℕ) → isWithin tree k j ≡ true → k < tree .count
   class-of k e = omega (arith, within-le tree top k j leaf-class′ e, leaf-class′)
@@ -297,7 +297,7 @@ module _ {m : List ℕ} {tree : Tree} {cs : List Call} {j bytes : ℕ} (b : Befo
       }
 
   -- what a table shows of the longer history that has what was brought up, and the counts of who is active
-  pub fair-left : {m₁ m₂ : List ℕ} → AfterRaise m m₁ tree cs j → ((k f : ℕ) → k < 64 → 18 ≤ f → f < 23 → at m₂ k f ≡ at m₁ k f)
+  pub fair-left : {m₁ m₂ : List ℕ} → AfterRaise m m₁ tree cs j → ((k f : ℕ) → k < CLASSES → fairFrom ≤ f → f < ACTIVE → at m₂ k f ≡ at m₁ k f)
       → (t : ℕ) (r : Rule) (k : ℕ) → k < tree .count → at m₂ k ACTIVE ≡ activity tree (left t j r ∷ cs) k → ShowsFair m₂ tree (left t j r ∷ cs) k
   fair-left {m₁} {m₂} a same t r k l e =
       let n = narrow k l in
@@ -316,5 +316,5 @@ module _ {m : List ℕ} {tree : Tree} {cs : List Call} {j bytes : ℕ} (b : Befo
         active = e;
       }
     where
-      kept : (f : ℕ) → 18 ≤ f → f < 23 → (f ≡ SENT → ⊥) → (f ≡ VIRTUAL → ⊥) → at m₂ k f ≡ at m k f
+      kept : (f : ℕ) → fairFrom ≤ f → f < ACTIVE → (f ≡ SENT → ⊥) → (f ≡ VIRTUAL → ⊥) → at m₂ k f ≡ at m k f
       kept f low high other other′ = same k f (narrow k l) low high ∙ a .others k f (narrow k l) (omega arith) other other′

@@ -20,29 +20,30 @@ use Rattle.rules.proofs.Tests.{never, decided, is-true, is-false, and-left, and
 use Rattle.rules.proofs.Trees.{leaf-class, a-child, parent-lower, within-up, within-cases, within-at-root, within-self, within-le, within-parent}
 use Rattle.rules.proofs.Queues.{queue-left, waits-leaf}
 use Rattle.rules.proofs.Active.{leaf-active}
-use Rattle.state.specs.Table.{at, with}
-use Rattle.state.specs.Columns.{ACTIVE, PARENT}
+use Rattle.state.specs.Table.{at, with, CLASSES, CELLS}
+use Rattle.state.specs.Columns.{ACTIVE, PARENT, fairFrom}
 use Rattle.state.specs.State.{activity}
-use Rattle.fair.specs.Steps.{Planted, BeforeRest, AfterRest}
+use Rattle.state.specs.Steps.{Planted}
+use Rattle.fair.specs.Steps.{BeforeRest, AfterRest}
 use Rattle.fair.specs.StepsResting.{isAbove, BeforePassing, AfterPassing}
 use Rattle.state.proofs.Cells.{length-with, at-with-same, at-with-class, at-with-column}
 use Rattle.state.proofs.LeafCells.{tree-cells}
 use Rattle.state.proofs.Resting.{passive-zero, passive-after, activity-off, activity-falls, activity-above, activity-leaf}
 
--- the tree's columns are still there where the columns before 18 are left alone
-pub planted-still : {m m′ : List ℕ} {tree : Tree} {cs : List Call} → length m′ ≡ 1536
-    → ((k f : ℕ) → k < 64 → f < 18 → at m′ k f ≡ at m k f) → Planted m tree cs → Planted m′ tree cs
+-- the tree's columns are still there where the columns before `fairFrom` are as they were
+pub planted-still : {m m′ : List ℕ} {tree : Tree} {cs : List Call} → length m′ ≡ CELLS
+    → ((k f : ℕ) → k < CLASSES → f < fairFrom → at m′ k f ≡ at m k f) → Planted m tree cs → Planted m′ tree cs
 planted-still {m} {m′} {tree} size same p =
     record {
       size = size;
       right = p .right;
       lawful = p .lawful;
       trees = λ k l.
-          tree-cells (λ f some early. same k f (omega (arith, p .right .count .below)) (omega arith)) (p .trees k l);
+          tree-cells (λ f some early. same k f (omega (arith, p .right .shape .count .below)) (omega arith)) (p .trees k l);
     }
 
--- a store to a column from 18 on
-pub planted-with : {m : List ℕ} {tree : Tree} {cs : List Call} (i f v : ℕ) → i < 64 → 18 ≤ f → Planted m tree cs → Planted (with m i f v) tree cs
+-- a store to a column from `fairFrom` on
+pub planted-with : {m : List ℕ} {tree : Tree} {cs : List Call} (i f v : ℕ) → i < CLASSES → fairFrom ≤ f → Planted m tree cs → Planted (with m i f v) tree cs
 planted-with {m} i f v l late p =
     planted-still (length-with m i f v ∙ p .size) (λ k g b h. at-with-column m i f v k g l b (λ e. omega arith)) p
 
@@ -98,8 +99,8 @@ module _ {m : List ℕ} {tree : Tree} {cs : List Call} {j i : ℕ} (b : BeforePa
   pub passing-class : i < tree .count
   passing-class = omega (arith, within-le tree grown i j leaf-below (b .line), leaf-below)
 
-  pub passing-narrow : i < 64
-  passing-narrow = omega (arith, passing-class, b .planted .right .count .below)
+  pub passing-narrow : i < CLASSES
+  passing-narrow = omega (arith, passing-class, b .planted .right .shape .count .below)
 
   pub passing-parent : at m i PARENT ≡ parentOf tree i
   passing-parent = b .planted .trees i passing-class .parent
@@ -114,7 +115,7 @@ module _ {m : List ℕ} {tree : Tree} {cs : List Call} {j i : ℕ} (b : BeforePa
     p-class : p < tree .count
     p-class = omega (arith, passing-falls, passing-class)
 
-    p-narrow : p < 64
+    p-narrow : p < CLASSES
     p-narrow = omega (arith, passing-falls, passing-narrow)
 
     child : isChild tree p i ≡ true
@@ -144,7 +145,7 @@ module _ {m : List ℕ} {tree : Tree} {cs : List Call} {j i : ℕ} (b : BeforePa
       busy-after : (t : ℕ) (r : Rule) → busy ≡ activity tree (left t j r ∷ cs) p
       busy-after t r = omega (arith, isBusy, one-less t r)
 
-      m₁-size : length m₁ ≡ 1536
+      m₁-size : length m₁ ≡ CELLS
       m₁-size = length-with m p ACTIVE busy ∙ b .planted .size
 
       -- with none left the parent turns passive in its turn
@@ -238,8 +239,8 @@ module _ {m : List ℕ} {tree : Tree} {cs : List Call} {j : ℕ} (b : BeforeRest
   pub resting-class : j < tree .count
   resting-class = leaf-class tree j at-leaf
 
-  pub resting-narrow : j < 64
-  resting-narrow = omega (arith, resting-class, b .planted .right .count .below)
+  pub resting-narrow : j < CLASSES
+  resting-narrow = omega (arith, resting-class, b .planted .right .shape .count .below)
 
   emptied : (t : ℕ) (r : Rule) → waits (left t j r ∷ cs) j ≡ false
   emptied t r = ap isNonempty (queue-left t j r cs) ∙ tail-empty (queue cs j) (b .last)
@@ -271,7 +272,7 @@ module _ {m : List ℕ} {tree : Tree} {cs : List Call} {j : ℕ} (b : BeforeRest
               row k f l (λ q. omega (arith, q, resting-class)) (is-false (isAbove tree k j) (λ e. omega (arith, above-lower tree top k j resting-class e, resting-class)));
         };
         actives = λ t r k l.
-            let narrow : k < 64 = omega (arith, l, b .planted .right .count .below) in
+            let narrow : k < CLASSES = omega (arith, l, b .planted .right .shape .count .below) in
             ⊎-elim (λ (e : isAbove tree k j ≡ true). a .actives t r k e)
             (λ (e : isAbove tree k j ≡ false).
             ⊎-elim
@@ -291,10 +292,10 @@ module _ {m : List ℕ} {tree : Tree} {cs : List Call} {j : ℕ} (b : BeforeRest
         others = λ k f l h other. column k f l other;
       }
     where
-      column : (k f : ℕ) → k < 64 → (f ≡ ACTIVE → ⊥) → at m′ k f ≡ at m k f
+      column : (k f : ℕ) → k < CLASSES → (f ≡ ACTIVE → ⊥) → at m′ k f ≡ at m k f
       column k f l other = a .others k f l other ∙ at-with-column m j ACTIVE 0 k f resting-narrow l other
 
-      row : (k f : ℕ) → k < 64 → (k ≡ j → ⊥) → isAbove tree k j ≡ false → at m′ k f ≡ at m k f
+      row : (k f : ℕ) → k < CLASSES → (k ≡ j → ⊥) → isAbove tree k j ≡ false → at m′ k f ≡ at m k f
       row k f l other e = a .elsewhere k f l e ∙ at-with-class m j ACTIVE 0 k f resting-narrow l other
 
   pub rest-done : {m₁ m′ : List ℕ} → m₁ ≡ with m j ACTIVE 0 → (BeforePassing m₁ tree cs j j → AfterPassing m₁ m′ tree cs j j) → AfterRest m m′ tree cs j

@@ -6,13 +6,13 @@ use mathlib.Core.Path.{_≡_, refl, sym, _∙_, ap, ap₂, subst}
 use mathlib.Core.List.{List}
 use lib.ListN.{length}
 use Rattle.curve.specs.Answers.{Least}
-use Rattle.curve.specs.Curves.{RightRate, mostStart}
+use Rattle.curve.specs.Curves.{RightRate}
 use Rattle.curve.specs.declared.Curve.the-variants.{Straight}
 use Rattle.curve.specs.declared.Piece.{Piece}
-use Rattle.curve.specs.Pieces.{Stands}
+use Rattle.curve.specs.Keeping.{mostStart, Stands}
 use Rattle.tree.specs.declared.Tree.{Tree}
-use Rattle.state.specs.Table.{at, with}
-use Rattle.state.specs.Columns.{SHARE, SENT, FAIR-START, FAIR-SENT, VIRTUAL, MARK, ACTIVE}
+use Rattle.state.specs.Table.{at, with, CLASSES, CELLS}
+use Rattle.state.specs.Columns.{SHARE, SENT, FAIR-START, FAIR-SENT, VIRTUAL, MARK, ACTIVE, fairFrom}
 use Rattle.fair.specs.Steps.{fairIn}
 use Rattle.fair.specs.StepsWaking.{Raises, VirtualStored, markIn, keptNow, metIn, BeforeStart, FairStarted}
 use Rattle.state.proofs.Cells.{length-with, at-with-same, at-with-class, at-with-column}
@@ -31,11 +31,11 @@ timed m p a i b c d = with (pieced m p a i b c) i VIRTUAL d
 abbrev pub counted : List ℕ → (p a i b c d e : ℕ) → List ℕ
 counted m p a i b c d e = with (timed m p a i b c d) p ACTIVE e
 
-module _ (m : List ℕ) (size : length m ≡ 1536) (p a i b c : ℕ) (pn : p < 64) (inn : i < 64) where
-  pub pieced-size : length (pieced m p a i b c) ≡ 1536
+module _ (m : List ℕ) (size : length m ≡ CELLS) (p a i b c : ℕ) (pn : p < CLASSES) (inn : i < CLASSES) where
+  pub pieced-size : length (pieced m p a i b c) ≡ CELLS
   pieced-size = length-with _ i FAIR-SENT c ∙ length-with _ i FAIR-START b ∙ length-with m p MARK a ∙ size
 
-  pub pieced-column : (k f : ℕ) → k < 64 → (f ≡ MARK → ⊥) → (f ≡ FAIR-START → ⊥) → (f ≡ FAIR-SENT → ⊥) → at (pieced m p a i b c) k f ≡ at m k f
+  pub pieced-column : (k f : ℕ) → k < CLASSES → (f ≡ MARK → ⊥) → (f ≡ FAIR-START → ⊥) → (f ≡ FAIR-SENT → ⊥) → at (pieced m p a i b c) k f ≡ at m k f
   pieced-column k f l x y z =
       at-with-column _ i FAIR-SENT c k f inn l z ∙ at-with-column _ i FAIR-START b k f inn l y ∙ at-with-column m p MARK a k f pn l x
 
@@ -52,19 +52,19 @@ module _ (m : List ℕ) (size : length m ≡ 1536) (p a i b c : ℕ) (pn : p < 6
     abbrev after : List ℕ
     after = counted m p a i b c d e
 
-    timed-size : length (timed m p a i b c d) ≡ 1536
+    timed-size : length (timed m p a i b c d) ≡ CELLS
     timed-size = length-with _ i VIRTUAL d ∙ pieced-size
 
-    pub counted-size : length (counted m p a i b c d e) ≡ 1536
+    pub counted-size : length (counted m p a i b c d e) ≡ CELLS
     counted-size = length-with _ p ACTIVE e ∙ timed-size
 
     -- a column that none of the stores is to, and a row of another class
-    pub counted-column : (k f : ℕ) → k < 64 → f < 18 → at (counted m p a i b c d e) k f ≡ at m k f
+    pub counted-column : (k f : ℕ) → k < CLASSES → f < fairFrom → at (counted m p a i b c d e) k f ≡ at m k f
     counted-column k f l h =
         at-with-column _ p ACTIVE e k f pn l (λ q. omega arith) ∙ at-with-column _ i VIRTUAL d k f inn l (λ q. omega arith)
         ∙ pieced-column k f l (λ q. omega arith) (λ q. omega arith) (λ q. omega arith)
 
-    pub counted-row : (k f : ℕ) → k < 64 → (k ≡ p → ⊥) → (k ≡ i → ⊥) → at (counted m p a i b c d e) k f ≡ at m k f
+    pub counted-row : (k f : ℕ) → k < CLASSES → (k ≡ p → ⊥) → (k ≡ i → ⊥) → at (counted m p a i b c d e) k f ≡ at m k f
     counted-row k f l x y =
         at-with-class _ p ACTIVE e k f pn l x ∙ at-with-class _ i VIRTUAL d k f inn l y ∙ at-with-class _ i FAIR-SENT c k f inn l y
         ∙ at-with-class _ i FAIR-START b k f inn l y ∙ at-with-class m p MARK a k f pn l x
@@ -112,8 +112,8 @@ module _ (m : List ℕ) (tree : Tree) (p i : ℕ) (b : BeforeStart m tree p i) w
       lower-start (at m i SHARE) (fairIn m i) (record { start = markIn m tree p i; sent = at m i SENT }) mostStart (b .raises .start)
       (omega (arith, b .mark, met-soon m tree p i (b .family)))
 
-  parent-narrow : p < 64
-  parent-narrow = omega (arith, b .family .class, b .family .right .count .below)
+  parent-narrow : p < CLASSES
+  parent-narrow = omega (arith, b .family .class, b .family .right .shape .count .below)
 
   module _ (m₁ m₂ m₃ : List ℕ) (mark : ℕ) (kept : Piece) (s₁ : m₁ ≡ with m p MARK mark) (s₂ : m₂ ≡ with m₁ i FAIR-START (kept .start))
       (s₃ : m₃ ≡ with m₂ i FAIR-SENT (kept .sent)) (is : kept ≡ keptNow m tree p i) where

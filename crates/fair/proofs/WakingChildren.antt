@@ -7,9 +7,8 @@ use mathlib.Core.Bool.{true, false, cond, not, _&&_, _||_}
 use mathlib.Core.List.{List}
 use mathlib.Core.Logic.{_⊎_, inl, inr, ⊎-elim}
 use Rattle.curve.proofs.Laws.Order.{le-or-lt}
-use Rattle.curve.specs.Curves.{mostStart}
 use Rattle.curve.specs.declared.Piece.{Piece}
-use Rattle.curve.specs.Pieces.{lowerOf}
+use Rattle.curve.specs.Keeping.{mostStart, lowerOf}
 use Rattle.curve.proofs.Laws.Kept.{lower-either}
 use Rattle.tree.specs.declared.Tree.{Tree}
 use Rattle.tree.specs.Trees.{isChild}
@@ -18,12 +17,13 @@ use Rattle.rules.proofs.Tests.{never, decided, and-left, by-cond, cond-yes, con
 use Rattle.rules.proofs.Over.{any-which, largest-most, smallest-most, last-or-below}
 use Rattle.rules.proofs.Trees.{child-class, child-some}
 use Rattle.fair.specs.declared.Spread.{Spread}
-use Rattle.state.specs.Table.{at}
-use Rattle.state.specs.Columns.{CHILD, SIBLING, VIRTUAL}
-use Rattle.fair.specs.StepsWaking.{otherIn, othersIn, spreadWith, spreadBelow, metIn, Family, HasFamily}
+use Rattle.state.specs.Heads.{Some}
+use Rattle.state.specs.Table.{at, CLASSES}
+use Rattle.state.specs.Columns.{CHILD, SIBLING, VIRTUAL, LARGEST}
+use Rattle.fair.specs.StepsWaking.{otherIn, othersIn, spreadWith, spreadBelow, metIn, Family}
 use Rattle.state.proofs.Chain.{NextChild, FoundChild, NoChild, first-child, next-sibling}
 
-small : (v : ℕ) → v ≤ mostStart → min v (2 ^ 64 - 1) ≡ v
+small : (v : ℕ) → v ≤ mostStart → min v (LARGEST) ≡ v
 small v h = omega arith
 
 module _ (m : List ℕ) (tree : Tree) (p i : ℕ) where
@@ -53,7 +53,7 @@ module _ (m : List ℕ) (tree : Tree) (p i : ℕ) where
       (λ (h : a ≤ n). spread-skip a n h (λ k b c. none k b (omega arith)) ∙ sym (spread-over n (none n h (omega arith))))
       (λ (h : n < a). ap (spreadBelow m tree p i) (omega arith)) (le-or-lt a n)
 
-  pub spread-none : spreadBelow m tree p i 0 ≡ record { any = false; low = 2 ^ 64 - 1; high = 0; last = 0 }
+  pub spread-none : spreadBelow m tree p i 0 ≡ record { any = false; low = LARGEST; high = 0; last = 0 }
   unfolding spreadBelow anyOf largestOf smallestOf
   spread-none = refl
 
@@ -66,7 +66,7 @@ module _ (m : List ℕ) (tree : Tree) (p i : ℕ) where
   gathered-next s a c l e (inr f) = inr (f .zero, e ∙ spread-skip a (tree .count) l (λ k b h. f .none k b))
 
   module _ (family : Family m tree p) where
-    pub gathered-first : (s : Spread) (c : ℕ) → s ≡ record { any = false; low = 2 ^ 64 - 1; high = 0; last = 0 } → c ≡ at m p CHILD → Gathered s c
+    pub gathered-first : (s : Spread) (c : ℕ) → s ≡ record { any = false; low = LARGEST; high = 0; last = 0 } → c ≡ at m p CHILD → Gathered s c
     gathered-first s c e q =
         gathered-next s 0 c (omega arith) (e ∙ sym spread-none)
         (subst (NextChild tree p 0) (sym (q ∙ family .trees p (family .class) .child)) (first-child tree p))
@@ -88,13 +88,13 @@ module _ (m : List ℕ) (tree : Tree) (p i : ℕ) where
         (e ∙ ap (λ (x : Spread). spreadWith x (at m c VIRTUAL) (otherIn m i c)) (h .1) ∙ spread-child c (h .0) (family .soon c (h .0)))
         (next-child c d (h .0) q)
 
-    pub gathered-falls : (c d : ℕ) → isChild tree p c ≡ true → d ≡ at m c SIBLING → (64 - d) % 64 < (64 - c) % 64
+    pub gathered-falls : (c d : ℕ) → isChild tree p c ≡ true → d ≡ at m c SIBLING → (CLASSES - d) % CLASSES < (CLASSES - c) % CLASSES
     gathered-falls c d child q =
         ⊎-elim
         (λ (f : FoundChild tree p (suc c) d).
-        omega (arith, f .after, child-class tree p d (f .child), child-some tree p c child, family .right .count .below))
+        omega (arith, f .after, child-class tree p d (f .child), child-some tree p c child, family .right .shape .count .below))
         (λ (f : NoChild tree p (suc c) d).
-        omega (arith, f .zero, child-class tree p c child, child-some tree p c child, family .right .count .below))
+        omega (arith, f .zero, child-class tree p c child, child-some tree p c child, family .right .shape .count .below))
         (next-child c d child q)
 
     pub gathered-all : (s : Spread) (c : ℕ) → c ≡ 0 → Gathered s c → s ≡ spreadBelow m tree p i (tree .count)
@@ -125,7 +125,7 @@ module _ (m : List ℕ) (tree : Tree) (p i : ℕ) where
     met-soon =
         by-cond (λ (x : ℕ). x ≤ mostStart) (anyOf (tree .count) (λ k. othersIn m tree p i k)) (λ e. omega (arith, low-soon e, high-soon)) (λ e. last-soon)
 
-    -- what the walk gathered gives the meeting, and its sum has room
+    -- what the walk gathered is what the children give the mark, and its sum has room
     pub met-sum : (s : Spread) → s ≡ spreadBelow m tree p i (tree .count) → s .any ≡ true → s .low + s .high < 2 ^ 64
     unfolding spreadBelow
     met-sum s e a =
@@ -151,16 +151,16 @@ module _ (m : List ℕ) (tree : Tree) (p i : ℕ) where
         ap (λ (x : Spread). x .last) e ∙ sym (cond-no _ _ none)
 
 -- what the walk's invariant tells of the child that it has come to
-module _ (m : List ℕ) (p i : ℕ) (s : Spread) (c : ℕ) (has : HasFamily m p)
+module _ (m : List ℕ) (p i : ℕ) (s : Spread) (c : ℕ) (has : Some (λ (tree : Tree). Family m tree p))
     (walk : (tree : Tree) → Family m tree p → Gathered m tree p i s c) (some : c ≡ 0 → ⊥) where
-  come-to : isChild (has .tree) p c ≡ true
-  come-to = gathered-child m (has .tree) p i (has .family) s c some (walk (has .tree) (has .family))
+  come-to : isChild (has .it) p c ≡ true
+  come-to = gathered-child m (has .it) p i (has .holds) s c some (walk (has .it) (has .holds))
 
-  pub walk-narrow : c < 64
-  walk-narrow = omega (arith, child-class (has .tree) p c come-to, has .family .right .count .below)
+  pub walk-narrow : c < CLASSES
+  walk-narrow = omega (arith, child-class (has .it) p c come-to, has .holds .right .shape .count .below)
 
-  pub walk-falls : (d : ℕ) → d ≡ at m c SIBLING → (64 - d) % 64 < (64 - c) % 64
-  walk-falls d q = gathered-falls m (has .tree) p i (has .family) c d come-to q
+  pub walk-falls : (d : ℕ) → d ≡ at m c SIBLING → (CLASSES - d) % CLASSES < (CLASSES - c) % CLASSES
+  walk-falls d q = gathered-falls m (has .it) p i (has .holds) c d come-to q
 
 -- the lower of two pieces starts where one of them does
 pub lower-start : (share : ℕ) (old new : Piece) (most : ℕ) → old .start ≤ most → new .start ≤ most → lowerOf share old new .start ≤ most

@@ -13,7 +13,7 @@ use Rattle.curve.specs.Answers.{Least}
 use Rattle.curve.specs.Curves.{RightRate}
 use Rattle.curve.specs.declared.Curve.the-variants.{Straight}
 use Rattle.curve.specs.declared.Piece.{Piece}
-use Rattle.curve.specs.Pieces.{Stands, lowerOf, lowest}
+use Rattle.curve.specs.Keeping.{Stands, lowerOf, lowest}
 use Rattle.curve.proofs.Laws.Kept.{lowest-more, lowest-start}
 use Rattle.tree.specs.declared.Tree.{Tree}
 use Rattle.tree.specs.Trees.{parentOf, shareOf, isChild, isLeaf}
@@ -21,16 +21,16 @@ use Rattle.rules.specs.Calls.{Call, came, left, idle}
 use Rattle.rules.specs.Limits.{weigh}
 use Rattle.rules.specs.Queues.{queue, isNonempty, waits}
 use Rattle.rules.specs.Over.{anyOf, largestOf, smallestOf}
-use Rattle.rules.specs.Classes.{isWithin, sent, active, turnsActive}
-use Rattle.rules.specs.Fair.{virtualTime, isOther, meeting, mark, fairPieces, parted, virtualTimeOf}
+use Rattle.rules.specs.Classes.{isWithin, sentIn, sent, active, turnsActive}
+use Rattle.rules.specs.Fair.{virtualTime, isOther, markByChildren, mark, fairPieces, virtualWhenPassive, virtualTimeOf}
 use Rattle.rules.specs.Lawful.{Grown, LawfulCalls}
 use Rattle.rules.proofs.Tests.{never, decided, is-true, is-false, and-left, and-right, and-both, or-left, not-is, is-not, by-cond, cond-yes, cond-no, same-test, equal-or-not}
 use Rattle.rules.proofs.Over.{any-same, any-none, none-any, largest-none, largest-same}
 use Rattle.rules.proofs.Trees.{leaf-class, child-class, child-some, child-parent, a-child, leaf-childless, upward, within-up, within-cases, within-at-root, within-self, within-parent, within-one}
 use Rattle.rules.proofs.Queues.{queue-came-other, waits-came, waits-leaf}
 use Rattle.rules.proofs.Active.{active-of, leaf-active, active-came, choice-waits, choice-leaf, active-idle}
-use Rattle.rules.proofs.Leaves.{Some}
-use Rattle.rules.proofs.Fair.{startOf, pieces-turned, pieces-kept, starts-at-mark, fair-in-order, parted-is-virtual}
+use Rattle.rules.proofs.Leaves.{HasPiece}
+use Rattle.rules.proofs.Fair.{startOf, pieces-turned, pieces-kept, mark-becomes, fair-in-order, when-passive-is-virtual}
 use Rattle.state.specs.Table.{at}
 use Rattle.state.specs.Columns.{VIRTUAL, ACTIVE}
 use Rattle.state.specs.State.{ShowsFair, countOf, activity, fairKept}
@@ -40,7 +40,7 @@ use Rattle.fair.proofs.RestingFair.{kept-virtual, active-started}
 
 -- `idle` "moves the clock and nothing else"
 pub fair-idle : (m : List ℕ) (tree : Tree) (cs : List Call) (t k : ℕ) → ShowsFair m tree cs k → ShowsFair m tree (idle t ∷ cs) k
-unfolding sent fairPieces mark activity active queue
+unfolding sentIn fairPieces mark activity active queue
 fair-idle m tree cs t k s =
     record {
       sent = s .sent;
@@ -52,7 +52,7 @@ fair-idle m tree cs t k s =
     }
 
 pub sent-came : (tree : Tree) (cs : List Call) (t j n k : ℕ) → sent tree (came t j n ∷ cs) k ≡ sent tree cs k
-unfolding sent
+unfolding sentIn
 sent-came tree cs t j n k = refl
 
 -- the children that are meant have the same smallest value
@@ -70,7 +70,7 @@ smallest-same (suc n) p q f g same values =
     (decided (p n))
 
 -- a piece more is kept by what was kept
-lower-all : (share : ℕ) (p : Piece) (ps : List Piece) → ((Some ps → ⊥) → p .sent ≡ 0) → lowerOf share (lowest share ps) p ≡ lowest share (p ∷ ps)
+lower-all : (share : ℕ) (p : Piece) (ps : List Piece) → ((HasPiece ps → ⊥) → p .sent ≡ 0) → lowerOf share (lowest share ps) p ≡ lowest share (p ∷ ps)
 lower-all share p [] h = lowest-start share p (h (λ s. s))
 lower-all share p (q ∷ qs) h = lowest-more share p q qs
 
@@ -99,11 +99,11 @@ module _ (tree : Tree) (grown : Grown tree) where
       c below
 
   -- a class that never started has sent nothing
-  unstarted-sent : (cs : List Call) → LawfulCalls tree cs → (i : ℕ) → 0 < i → (Some (fairPieces tree cs i) → ⊥) → sent tree cs i ≡ 0
-  unfolding LawfulCalls fairPieces sent
+  unstarted-sent : (cs : List Call) → LawfulCalls tree cs → (i : ℕ) → 0 < i → (HasPiece (fairPieces tree cs i) → ⊥) → sent tree cs i ≡ 0
+  unfolding LawfulCalls fairPieces sentIn
   unstarted-sent [] law i some none = refl
   unstarted-sent (came t j n ∷ cs) law i some none =
-      by-cond (λ (ps : List Piece). (Some ps → ⊥) → sent tree cs i ≡ 0) (turnsActive tree cs j i) (λ e h. absurd (h tt))
+      by-cond (λ (ps : List Piece). (HasPiece ps → ⊥) → sent tree cs i ≡ 0) (turnsActive tree cs j i) (λ e h. absurd (h tt))
       (λ e h. unstarted-sent cs (law .1) i some h) none
   unstarted-sent (left t j r ∷ cs) law i some none =
       by-cond (λ (x : ℕ). x ≡ 0) (isWithin tree i j)
@@ -111,7 +111,7 @@ module _ (tree : Tree) (grown : Grown tree) where
       absurd
       (none
       (active-started tree grown cs (law .1) i some
-      (active-of tree cs i j (leaf-class tree j (choice-leaf tree grown cs t j r (law .0 .1))) w (choice-waits tree grown cs t j r (law .0 .1))))))
+      (active-of tree cs i j (leaf-class tree j (choice-leaf tree grown cs t j r (law .0 .finds))) w (choice-waits tree grown cs t j r (law .0 .finds))))))
       (λ w. unstarted-sent cs (law .1) i some none)
   unstarted-sent (idle t ∷ cs) law i some none = unstarted-sent cs (law .1) i some none
 
@@ -135,7 +135,7 @@ module _ (tree : Tree) (grown : Grown tree) where
         omega (
           arith,
           largest-none (tree .count) (λ i. isChild tree k i && turnsActive tree cs j i)
-              (meeting tree cs (λ k. virtualTime (shareOf tree k) (fairPieces tree cs k) (sent tree cs k)) (λ k. parted tree cs k))
+              (markByChildren tree cs (λ k. virtualTime (shareOf tree k) (fairPieces tree cs k) (sent tree cs k)) (λ k. virtualWhenPassive tree cs k))
               (none-any (tree .count) (λ i. isChild tree k i && turnsActive tree cs j i)
               (λ i l.
               is-false (isChild tree k i && turnsActive tree cs j i)
@@ -180,7 +180,7 @@ module _ (tree : Tree) (grown : Grown tree) where
 
     -- the columns of such a class stay as they are
     pub fair-unmoved : (m : List ℕ) (k : ℕ) → Unmoved k → ShowsFair m tree cs k → (t n : ℕ) → ShowsFair m tree (came t j n ∷ cs) k
-    unfolding sent
+    unfolding sentIn
     fair-unmoved m k u s t n =
         let same = sym (pieces-kept tree t j n cs k (stays k (u .own))) in
         record {
@@ -214,21 +214,21 @@ module _ (tree : Tree) (grown : Grown tree) where
           and-both (not (eqb i 0)) _ (not-is (eqb i 0) (ne-eqb i 0 (λ e. omega (arith, child-some tree p i child))))
           (and-both (isWithin tree i j) _ line (not-is (active tree cs i) passive))
 
-      pub mark-turned : (t n : ℕ) → mark tree (came t j n ∷ cs) p ≡ max (mark tree cs p) (meeting tree cs (λ k. virtualTimeOf tree cs k) (λ k. parted tree cs k) i)
+      pub mark-turned : (t n : ℕ) → mark tree (came t j n ∷ cs) p ≡ max (mark tree cs p) (markByChildren tree cs (λ k. virtualTimeOf tree cs k) (λ k. virtualWhenPassive tree cs k) i)
       mark-turned t n =
           subst
-          (λ (x : ℕ). mark tree (came t j n ∷ cs) x ≡ max (mark tree cs x) (meeting tree cs (λ k. virtualTimeOf tree cs k) (λ k. parted tree cs k) i))
+          (λ (x : ℕ). mark tree (came t j n ∷ cs) x ≡ max (mark tree cs x) (markByChildren tree cs (λ k. virtualTimeOf tree cs k) (λ k. virtualWhenPassive tree cs k) i))
           (child-parent tree p i child)
-          (starts-at-mark tree grown t j n cs i (child-class tree p i child) (leaf-class tree j leaf) turns)
+          (mark-becomes tree grown t j n cs i (child-class tree p i child) (leaf-class tree j leaf) turns)
 
       abbrev newPiece : Piece
-      newPiece = record { start = max (mark tree cs p) (meeting tree cs (λ k. virtualTimeOf tree cs k) (λ k. parted tree cs k) i); sent = sent tree cs i }
+      newPiece = record { start = max (mark tree cs p) (markByChildren tree cs (λ k. virtualTimeOf tree cs k) (λ k. virtualWhenPassive tree cs k) i); sent = sent tree cs i }
 
       pieces-new : (t n : ℕ) → fairPieces tree (came t j n ∷ cs) i ≡ newPiece ∷ fairPieces tree cs i
       pieces-new t n =
           pieces-turned tree t j n cs i turns
           ∙ ap
-          (λ (x : ℕ). record { start = max (mark tree cs x) (meeting tree cs (λ k. virtualTimeOf tree cs k) (λ k. parted tree cs k) i); sent = sent tree cs i } ∷ fairPieces tree cs i)
+          (λ (x : ℕ). record { start = max (mark tree cs x) (markByChildren tree cs (λ k. virtualTimeOf tree cs k) (λ k. virtualWhenPassive tree cs k) i); sent = sent tree cs i } ∷ fairPieces tree cs i)
           (child-parent tree p i child)
 
       pub kept-turned : (t n : ℕ) → fairKept tree (came t j n ∷ cs) i ≡ lowerOf (shareOf tree i) (fairKept tree cs i) newPiece
@@ -238,11 +238,11 @@ module _ (tree : Tree) (grown : Grown tree) where
 
       pub virtual-turned : RightRate (shareOf tree i) → (t n v : ℕ) → Least (Stands (Straight (shareOf tree i)) (fairKept tree (came t j n ∷ cs) i) (sent tree cs i)) v
           → v ≡ virtualTimeOf tree (came t j n ∷ cs) i
-      unfolding sent
+      unfolding sentIn
       virtual-turned rate t n v least =
           let order = fair-in-order tree grown (came t j n ∷ cs) i (child-class tree p i child) in
           kept-virtual (shareOf tree i) rate (fairPieces tree (came t j n ∷ cs) i)
-          (subst Some (sym (pieces-new t n)) tt)
+          (subst HasPiece (sym (pieces-new t n)) tt)
           (order .order) (sent tree cs i) v (order .sent) least
 
       -- the parent has one active child more
@@ -259,7 +259,7 @@ module _ (tree : Tree) (grown : Grown tree) where
           (λ c. active-still k t n (λ w. absurd (other (within-one tree grown p k i j c child (leaf-class tree j leaf) w line)))))
           ∙ ap (λ (x : ℕ). x + 1) (sym (activity-interior tree cs p inner))
 
-      -- what the columns give is the meeting
+      -- what the columns give is what the children give the mark
       module _ (m : List ℕ) (virtuals : (k : ℕ) → isChild tree p k ≡ true → at m k VIRTUAL ≡ virtualTimeOf tree cs k)
           (actives : (k : ℕ) → isChild tree p k ≡ true → (k ≡ i → ⊥) → at m k ACTIVE ≡ activity tree cs k) where
         same-other : (k : ℕ) → othersIn m tree p i k ≡ (isChild tree p k && (active tree cs k && not (eqb k i)))
@@ -301,8 +301,8 @@ module _ (tree : Tree) (grown : Grown tree) where
         other-child : (k : ℕ) → othersIn m tree p i k ≡ true → isChild tree p k ≡ true
         other-child k e = and-left (isChild tree p k) _ e
 
-        pub met-is : metIn m tree p i ≡ meeting tree cs (λ k. virtualTimeOf tree cs k) (λ k. parted tree cs k) i
-        unfolding metIn meeting
+        pub met-is : metIn m tree p i ≡ markByChildren tree cs (λ k. virtualTimeOf tree cs k) (λ k. virtualWhenPassive tree cs k) i
+        unfolding metIn markByChildren
         met-is =
             let some = any-same (tree .count) (λ k. othersIn m tree p i k) (isOther tree cs i) (λ k l. same-others k) in
             ⊎-elim
@@ -316,9 +316,9 @@ module _ (tree : Tree) (grown : Grown tree) where
             ∙ sym (cond-yes _ _ (sym some ∙ e)))
             (λ (e : anyOf (tree .count) (λ k. othersIn m tree p i k) ≡ false).
             cond-no _ _ e
-            ∙ largest-same (tree .count) (λ k. isChild tree p k) (isChild tree (parentOf tree i)) (λ k. at m k VIRTUAL) (λ k. parted tree cs k)
+            ∙ largest-same (tree .count) (λ k. isChild tree p k) (isChild tree (parentOf tree i)) (λ k. at m k VIRTUAL) (λ k. virtualWhenPassive tree cs k)
             (λ k l. ap (λ (x : ℕ). isChild tree x k) (sym (child-parent tree p i child)))
-            (λ k l c. virtuals k c ∙ sym (parted-is-virtual tree grown cs law k (all-passive e k c)))
+            (λ k l c. virtuals k c ∙ sym (when-passive-is-virtual tree grown cs law k (all-passive e k c)))
             ∙ sym (cond-no _ _ (sym some ∙ e)))
             (decided (anyOf (tree .count) (λ k. othersIn m tree p i k)))
 

@@ -8,16 +8,16 @@ use mathlib.Core.Bool.{Bool, true, false, cond, _&&_}
 use mathlib.Core.List.{List, _∷_}
 use mathlib.Core.Logic.{_⊎_, inl, inr, ⊎-elim}
 use lib.ListN.{length}
-use Rattle.curve.specs.Curves.{RightRate, mostStart}
+use Rattle.curve.specs.Curves.{RightRate}
 use Rattle.curve.specs.declared.Piece.{Piece}
-use Rattle.curve.specs.Pieces.{lowerOf, lowest}
+use Rattle.curve.specs.Keeping.{mostStart, lowerOf, lowest}
 use Rattle.tree.specs.declared.Tree.{Tree}
 use Rattle.tree.specs.Trees.{parentOf, shareOf, isChild, isLeaf}
 use Rattle.tree.proofs.Right.{parent-class, share-within}
 use Rattle.rules.specs.Calls.{Call, came}
 use Rattle.rules.specs.Queues.{waits}
-use Rattle.rules.specs.Classes.{isWithin, sent, active}
-use Rattle.rules.specs.Fair.{virtualTime, meeting, mark, fairPieces, parted, virtualTimeOf}
+use Rattle.rules.specs.Classes.{isWithin, sentIn, sent, active}
+use Rattle.rules.specs.Fair.{virtualTime, markByChildren, mark, fairPieces, virtualWhenPassive, virtualTimeOf}
 use Rattle.rules.specs.Lawful.{Grown, right, LawfulCalls}
 use Rattle.rules.proofs.Tests.{never, decided, is-false, and-right, by-cond, cond-yes, equal-or-not}
 use Rattle.rules.proofs.Trees.{leaf-class, child-class, child-some, child-parent, a-child, parent-lower, within-cases, within-self, within-top, within-le, within-parent, within-leaf, within-one}
@@ -25,10 +25,11 @@ use Rattle.rules.proofs.Queues.{waits-came}
 use Rattle.rules.proofs.Active.{leaf-active}
 use Rattle.rules.proofs.Sent.{w-most}
 use Rattle.rules.proofs.Fair.{mark-most, virtual-most}
-use Rattle.state.specs.Table.{at, with}
-use Rattle.state.specs.Columns.{PARENT, SHARE, SENT, FAIR-START, FAIR-SENT, VIRTUAL, MARK, ACTIVE}
+use Rattle.state.specs.Table.{at, with, CLASSES, COLUMNS, CELLS}
+use Rattle.state.specs.Columns.{PARENT, SHARE, SENT, FAIR-START, FAIR-SENT, VIRTUAL, MARK, ACTIVE, fairFrom}
 use Rattle.state.specs.State.{ShowsFair, countOf, activity, fairKept}
-use Rattle.fair.specs.Steps.{fairIn, Planted, LeftAlone, BeforeWaking, AfterWaking}
+use Rattle.state.specs.Steps.{Planted}
+use Rattle.fair.specs.Steps.{fairIn, KeepsOthers, BeforeWaking, AfterWaking}
 use Rattle.fair.specs.StepsWaking.{Raises, Family, markIn, keptNow, metIn, BeforeStart, FairStarted, ShowsChild, BeforeTurn, AfterTurn}
 use Rattle.state.proofs.Cells.{length-with, at-with-same, at-with-class, at-with-column}
 use Rattle.state.proofs.Resting.{activity-leaf, activity-interior, parent-interior, active-above}
@@ -43,25 +44,25 @@ count-most zero p = omega arith
 count-most (suc n) p = by-cond (λ (x : ℕ). x ≤ suc n) (p n) (λ e. omega (arith, count-most n p)) (λ e. omega (arith, count-most n p))
 
 -- equal cells show the same
-fair-moved : {m m′ : List ℕ} {tree : Tree} {cs : List Call} {k : ℕ} → ((f : ℕ) → f < 24 → at m′ k f ≡ at m k f) → ShowsFair m tree cs k → ShowsFair m′ tree cs k
+fair-moved : {m m′ : List ℕ} {tree : Tree} {cs : List Call} {k : ℕ} → ((f : ℕ) → f < COLUMNS → at m′ k f ≡ at m k f) → ShowsFair m tree cs k → ShowsFair m′ tree cs k
 fair-moved same s =
     record {
-      sent = same 18 (omega arith) ∙ s .sent;
-      fairStart = same 19 (omega arith) ∙ s .fairStart;
-      fairSent = same 20 (omega arith) ∙ s .fairSent;
-      virtual = same 21 (omega arith) ∙ s .virtual;
-      mark = same 22 (omega arith) ∙ s .mark;
-      active = same 23 (omega arith) ∙ s .active;
+      sent = same SENT (omega arith) ∙ s .sent;
+      fairStart = same FAIR-START (omega arith) ∙ s .fairStart;
+      fairSent = same FAIR-SENT (omega arith) ∙ s .fairSent;
+      virtual = same VIRTUAL (omega arith) ∙ s .virtual;
+      mark = same MARK (omega arith) ∙ s .mark;
+      active = same ACTIVE (omega arith) ∙ s .active;
     }
 
-child-moved : {m m′ : List ℕ} {tree : Tree} {cs : List Call} {k : ℕ} → ((f : ℕ) → 18 ≤ f → f < 22 → at m′ k f ≡ at m k f) → ShowsChild m tree cs k
+child-moved : {m m′ : List ℕ} {tree : Tree} {cs : List Call} {k : ℕ} → ((f : ℕ) → fairFrom ≤ f → f < MARK → at m′ k f ≡ at m k f) → ShowsChild m tree cs k
     → ShowsChild m′ tree cs k
 child-moved same s =
     record {
-      sent = same 18 (omega arith) (omega arith) ∙ s .sent;
-      fairStart = same 19 (omega arith) (omega arith) ∙ s .fairStart;
-      fairSent = same 20 (omega arith) (omega arith) ∙ s .fairSent;
-      virtual = same 21 (omega arith) (omega arith) ∙ s .virtual;
+      sent = same SENT (omega arith) (omega arith) ∙ s .sent;
+      fairStart = same FAIR-START (omega arith) (omega arith) ∙ s .fairStart;
+      fairSent = same FAIR-SENT (omega arith) (omega arith) ∙ s .fairSent;
+      virtual = same VIRTUAL (omega arith) (omega arith) ∙ s .virtual;
     }
 
 child-of : {m : List ℕ} {tree : Tree} {cs : List Call} {k : ℕ} → ShowsFair m tree cs k → ShowsChild m tree cs k
@@ -74,7 +75,7 @@ fair-of s x y = record { sent = s .sent; fairStart = s .fairStart; fairSent = s 
 -- a class whose fair pieces stay
 child-stays : {m : List ℕ} {tree : Tree} {cs : List Call} {t j n k : ℕ} → fairPieces tree (came t j n ∷ cs) k ≡ fairPieces tree cs k → ShowsChild m tree cs k
     → ShowsChild m tree (came t j n ∷ cs) k
-unfolding sent
+unfolding sentIn
 child-stays {m} {tree} {cs} {t} {j} {n} {k} same s =
     record {
       sent = s .sent;
@@ -83,7 +84,7 @@ child-stays {m} {tree} {cs} {t} {j} {n} {k} same s =
       virtual = s .virtual ∙ ap (λ (ps : List Piece). virtualTime (shareOf tree k) ps (sent tree cs k)) (sym same);
     }
 
-alone-on : {m m′ m″ : List ℕ} {tree : Tree} → LeftAlone m m′ tree → LeftAlone m′ m″ tree → LeftAlone m m″ tree
+alone-on : {m m′ m″ : List ℕ} {tree : Tree} → KeepsOthers m m′ tree → KeepsOthers m′ m″ tree → KeepsOthers m m″ tree
 alone-on x y =
     record {
       size = y .size;
@@ -108,18 +109,18 @@ turned-root {m} {tree} {cs} {j} {i} e b =
     }
 
 module _ {m : List ℕ} {tree : Tree} {cs : List Call} {j i : ℕ} (b : BeforeTurn m tree cs j i) where
-  narrow : (k : ℕ) → k < tree .count → k < 64
-  narrow k l = omega (arith, b .planted .right .count .below)
+  narrow : (k : ℕ) → k < tree .count → k < CLASSES
+  narrow k l = omega (arith, b .planted .right .shape .count .below)
 
   grown : Grown tree
   grown = right (b .planted .right)
 
-  pub turn-narrow : i < 64
+  pub turn-narrow : i < CLASSES
   turn-narrow = narrow i (b .class)
 
-  pub turn-parent : (p : ℕ) → p ≡ at m i PARENT → p < 64
+  pub turn-parent : (p : ℕ) → p ≡ at m i PARENT → p < CLASSES
   turn-parent p e =
-      omega (arith, e, b .planted .trees i (b .class) .parent, narrow (parentOf tree i) (parent-class tree (b .planted .right) i (b .class)))
+      omega (arith, e, b .planted .trees i (b .class) .parent, narrow (parentOf tree i) (parent-class tree (b .planted .right .shape) i (b .class)))
 
   module _ (some : i ≡ 0 → ⊥) (p : ℕ) (pe : p ≡ at m i PARENT) where
     is-parent : parentOf tree i ≡ p
@@ -158,7 +159,7 @@ module _ {m : List ℕ} {tree : Tree} {cs : List Call} {j i : ℕ} (b : BeforeTu
         (λ (e : k ≡ i). subst (λ (x : ℕ). at m x VIRTUAL ≡ virtualTimeOf tree cs x) (sym e) (b .own .virtual))
         (λ (ne : k ≡ i → ⊥). sibling-shown k c ne .virtual) (equal-or-not k i)
 
-    met : metIn m tree p i ≡ meeting tree cs (λ k. virtualTimeOf tree cs k) (λ k. parted tree cs k) i
+    met : metIn m tree p i ≡ markByChildren tree cs (λ k. virtualTimeOf tree cs k) (λ k. virtualWhenPassive tree cs k) i
     met =
         met-is tree grown cs j (b .leaf) (b .planted .lawful) p i child (b .line) (b .passive) m virtuals
         (λ k c ne. sibling-shown k c ne .active)
@@ -167,7 +168,7 @@ module _ {m : List ℕ} {tree : Tree} {cs : List Call} {j i : ℕ} (b : BeforeTu
     share-shown = b .planted .trees i (b .class) .share
 
     rate : RightRate (shareOf tree i)
-    rate = share-within tree (b .planted .right) i (b .class)
+    rate = share-within tree (b .planted .right .shape) i (b .class)
 
     pub turn-start : BeforeStart m tree p i
     turn-start =
@@ -203,7 +204,7 @@ module _ {m : List ℕ} {tree : Tree} {cs : List Call} {j i : ℕ} (b : BeforeTu
           parent-shown .active,
           activity-interior tree cs p (parent-interior tree p i child),
           count-most (tree .count) (λ k. isChild tree p k && active tree cs k),
-          b .planted .right .count .below,
+          b .planted .right .shape .count .below,
         )
 
     -- the class has started, and its parent's count is raised
@@ -214,12 +215,12 @@ module _ {m : List ℕ} {tree : Tree} {cs : List Call} {j i : ℕ} (b : BeforeTu
       whole : m₂ ≡ counted m p (markIn m tree p i) i (kept .start) (kept .sent) (s .time) (busy + 1)
       whole = w ∙ ap (λ (x : List ℕ). with x p ACTIVE (busy + 1)) (s .stored)
 
-      row : (k f : ℕ) → k < 64 → (k ≡ p → ⊥) → (k ≡ i → ⊥) → at m₂ k f ≡ at m k f
+      row : (k f : ℕ) → k < CLASSES → (k ≡ p → ⊥) → (k ≡ i → ⊥) → at m₂ k f ≡ at m k f
       row k f l x y =
           ap (λ (n : List ℕ). at n k f) whole
           ∙ counted-row m (b .planted .size) p (markIn m tree p i) i (kept .start) (kept .sent) (turn-parent p pe) turn-narrow (s .time) (busy + 1) apart k f l x y
 
-      column : (k f : ℕ) → k < 64 → f < 18 → at m₂ k f ≡ at m k f
+      column : (k f : ℕ) → k < CLASSES → f < fairFrom → at m₂ k f ≡ at m k f
       column k f l h =
           ap (λ (n : List ℕ). at n k f) whole
           ∙ counted-column m (b .planted .size) p (markIn m tree p i) i (kept .start) (kept .sent) (turn-parent p pe) turn-narrow (s .time) (busy + 1) apart k f l h
@@ -234,12 +235,12 @@ module _ {m : List ℕ} {tree : Tree} {cs : List Call} {j i : ℕ} (b : BeforeTu
           ap (λ (n : List ℕ). at n i f) whole
           ∙ counted-child m (b .planted .size) p (markIn m tree p i) i (kept .start) (kept .sent) (turn-parent p pe) turn-narrow (s .time) (busy + 1) apart f x y z
 
-      size : length m₂ ≡ 1536
+      size : length m₂ ≡ CELLS
       size =
           ap length whole
           ∙ counted-size m (b .planted .size) p (markIn m tree p i) i (kept .start) (kept .sent) (turn-parent p pe) turn-narrow (s .time) (busy + 1) apart
 
-      alone : LeftAlone m m₂ tree
+      alone : KeepsOthers m m₂ tree
       alone =
           record {
             size = size;
@@ -269,7 +270,7 @@ module _ {m : List ℕ} {tree : Tree} {cs : List Call} {j i : ℕ} (b : BeforeTu
           ∙ sym (kept-turned tree grown cs j (b .leaf) (b .planted .lawful) p i child (b .line) (b .passive) t n)
 
       child-shown : (t n : ℕ) → ShowsChild m₂ tree (came t j n ∷ cs) i
-      unfolding sent
+      unfolding sentIn
       child-shown t n =
           record {
             sent = of-child SENT (λ e. omega arith) (λ e. omega arith) (λ e. omega arith) ∙ b .own .sent;
@@ -333,7 +334,7 @@ module _ {m : List ℕ} {tree : Tree} {cs : List Call} {j i : ℕ} (b : BeforeTu
 
         pub turn-on-done : {m₃ : List ℕ} → AfterTurn m₂ m₃ tree cs j p → AfterTurn m m₃ tree cs j i
         turn-on-done {m₃} a =
-            let mine : (f : ℕ) → f < 24 → at m₃ i f ≡ at m₂ i f = λ f h. a .beneath i f (b .class) h in-parent (λ e. apart (sym e)) in
+            let mine : (f : ℕ) → f < COLUMNS → at m₃ i f ≡ at m₂ i f = λ f h. a .beneath i f (b .class) h in-parent (λ e. apart (sym e)) in
             record {
               alone = alone-on alone (a .alone);
               own = λ t n. child-moved (λ f l h. mine f (omega arith)) (child-shown t n);
@@ -404,20 +405,20 @@ module _ {m : List ℕ} {tree : Tree} {cs : List Call} {j : ℕ} (b : BeforeWaki
   leaf-below : j < tree .count
   leaf-below = leaf-class tree j (b .leaf)
 
-  pub wake-narrow : j < 64
-  wake-narrow = omega (arith, leaf-below, b .planted .right .count .below)
+  pub wake-narrow : j < CLASSES
+  wake-narrow = omega (arith, leaf-below, b .planted .right .shape .count .below)
 
   module _ (m₁ : List ℕ) (w : m₁ ≡ with m j ACTIVE 1) where
-    other-column : (k f : ℕ) → k < 64 → (f ≡ ACTIVE → ⊥) → at m₁ k f ≡ at m k f
+    other-column : (k f : ℕ) → k < CLASSES → (f ≡ ACTIVE → ⊥) → at m₁ k f ≡ at m k f
     other-column k f l ne = ap (λ (x : List ℕ). at x k f) w ∙ at-with-column m j ACTIVE 1 k f wake-narrow l ne
 
-    other-row : (k f : ℕ) → k < 64 → (k ≡ j → ⊥) → at m₁ k f ≡ at m k f
+    other-row : (k f : ℕ) → k < CLASSES → (k ≡ j → ⊥) → at m₁ k f ≡ at m k f
     other-row k f l ne = ap (λ (x : List ℕ). at x k f) w ∙ at-with-class m j ACTIVE 1 k f wake-narrow l ne
 
     stored : at m₁ j ACTIVE ≡ 1
     stored = ap (λ (x : List ℕ). at x j ACTIVE) w ∙ at-with-same m j ACTIVE 1 (b .planted .size) wake-narrow (omega arith)
 
-    first-size : length m₁ ≡ 1536
+    first-size : length m₁ ≡ CELLS
     first-size = ap length w ∙ length-with m j ACTIVE 1 ∙ b .planted .size
 
     pub wake-turn : BeforeTurn m₁ tree cs j j
@@ -432,7 +433,7 @@ module _ {m : List ℕ} {tree : Tree} {cs : List Call} {j : ℕ} (b : BeforeWaki
           others = λ k l out.
               fair-moved
               (λ f h.
-              other-row k f (omega (arith, b .planted .right .count .below))
+              other-row k f (omega (arith, b .planted .right .shape .count .below))
               (λ e. never (subst (λ (x : ℕ). isWithin tree j x ≡ true) (sym e) (within-self tree (right (b .planted .right)) j)) out))
               (b .fairs k l);
         }

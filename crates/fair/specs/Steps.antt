@@ -8,36 +8,28 @@ use lib.ListN.{length}
 use Rattle.curve.specs.declared.Piece.{Piece}
 use Rattle.tree.specs.declared.Tree.{Tree}
 use Rattle.tree.specs.Trees.{isLeaf}
-use Rattle.tree.specs.Rules.{RightTree}
 use Rattle.rules.specs.declared.Rule.{Rule}
 use Rattle.rules.specs.Limits.{weigh}
 use Rattle.rules.specs.Calls.{Call, came, left}
 use Rattle.rules.specs.Queues.{queue, waits, headLength}
 use Rattle.rules.specs.Classes.{sent}
 use Rattle.rules.specs.Fair.{virtualTimeOf}
-use Rattle.rules.specs.Lawful.{LawfulCalls}
-use Rattle.state.specs.Table.{at}
-use Rattle.state.specs.Columns.{SENT, VIRTUAL, ACTIVE, FAIR-START, FAIR-SENT}
-use Rattle.state.specs.State.{ShowsTree, ShowsFair, activity}
+use Rattle.state.specs.Table.{at, CLASSES, COLUMNS, CELLS}
+use Rattle.state.specs.Columns.{SENT, VIRTUAL, ACTIVE, FAIR-START, FAIR-SENT, fairFrom}
+use Rattle.state.specs.State.{ShowsFair, activity}
+use Rattle.state.specs.Steps.{Planted}
 
 -- the fair piece that a class's columns have
 abbrev pub fairIn : List ℕ → ℕ → Piece
 fairIn m i = record { start = at m i FAIR-START; sent = at m i FAIR-SENT }
 
--- The steps of a class among its parent's children. Columns 18 to 23 of the table are theirs; the others stay as they are.
+-- The steps of a class among its parent's children. The columns from `fairFrom` on are theirs; the others stay as they are.
 
--- a table with the tree's columns, for a right tree and calls that the rules allow
-pub record Planted (m : List ℕ) (tree : Tree) (cs : List Call) : Type 0 where
-  pub size : length m ≡ 1536
-  pub right : RightTree tree
-  pub lawful : LawfulCalls tree cs
-  pub trees : (k : ℕ) → k < tree .count → ShowsTree m tree k
-
--- the columns before 18, and the rows of no class, are left alone
-pub record LeftAlone (m m′ : List ℕ) (tree : Tree) : Type 0 where
-  pub size : length m′ ≡ 1536
-  pub columns : (k f : ℕ) → k < 64 → f < 18 → at m′ k f ≡ at m k f
-  pub rows : (k f : ℕ) → tree .count ≤ k → k < 64 → f < 24 → at m′ k f ≡ at m k f
+-- the columns before those, and the rows of no class, are as they were
+pub record KeepsOthers (m m′ : List ℕ) (tree : Tree) : Type 0 where
+  pub size : length m′ ≡ CELLS
+  pub columns : (k f : ℕ) → k < CLASSES → f < fairFrom → at m′ k f ≡ at m k f
+  pub rows : (k f : ℕ) → tree .count ≤ k → k < CLASSES → f < COLUMNS → at m′ k f ≡ at m k f
 
 -- an empty leaf is about to turn active
 pub record BeforeWaking (m : List ℕ) (tree : Tree) (cs : List Call) (j : ℕ) : Type 0 where
@@ -47,13 +39,8 @@ pub record BeforeWaking (m : List ℕ) (tree : Tree) (cs : List Call) (j : ℕ) 
   pub fairs : (k : ℕ) → k < tree .count → ShowsFair m tree cs k
 
 pub record AfterWaking (m m′ : List ℕ) (tree : Tree) (cs : List Call) (j : ℕ) : Type 0 where
-  pub alone : LeftAlone m m′ tree
+  pub alone : KeepsOthers m m′ tree
   pub fairs : (t n k : ℕ) → k < tree .count → ShowsFair m′ tree (came t j n ∷ cs) k
-
-pub record Wakable (m : List ℕ) (j : ℕ) : Type 0 where
-  pub tree : Tree
-  pub calls : List Call
-  pub before : BeforeWaking m tree calls j
 
 -- the head of a waiting leaf, of that many bytes, has left
 pub record BeforeRaise (m : List ℕ) (tree : Tree) (cs : List Call) (j bytes : ℕ) : Type 0 where
@@ -63,15 +50,10 @@ pub record BeforeRaise (m : List ℕ) (tree : Tree) (cs : List Call) (j bytes : 
   pub fairs : (k : ℕ) → k < tree .count → ShowsFair m tree cs k
 
 pub record AfterRaise (m m′ : List ℕ) (tree : Tree) (cs : List Call) (j : ℕ) : Type 0 where
-  pub alone : LeftAlone m m′ tree
+  pub alone : KeepsOthers m m′ tree
   pub sents : (t : ℕ) (r : Rule) (k : ℕ) → k < tree .count → at m′ k SENT ≡ sent tree (left t j r ∷ cs) k
   pub virtuals : (t : ℕ) (r : Rule) (k : ℕ) → k < tree .count → at m′ k VIRTUAL ≡ virtualTimeOf tree (left t j r ∷ cs) k
-  pub others : (k f : ℕ) → k < 64 → f < 24 → (f ≡ SENT → ⊥) → (f ≡ VIRTUAL → ⊥) → at m′ k f ≡ at m k f
-
-pub record Raisable (m : List ℕ) (j bytes : ℕ) : Type 0 where
-  pub tree : Tree
-  pub calls : List Call
-  pub before : BeforeRaise m tree calls j bytes
+  pub others : (k f : ℕ) → k < CLASSES → f < COLUMNS → (f ≡ SENT → ⊥) → (f ≡ VIRTUAL → ⊥) → at m′ k f ≡ at m k f
 
 -- the last packet of a leaf has left
 pub record BeforeRest (m : List ℕ) (tree : Tree) (cs : List Call) (j : ℕ) : Type 0 where
@@ -81,11 +63,6 @@ pub record BeforeRest (m : List ℕ) (tree : Tree) (cs : List Call) (j : ℕ) : 
   pub actives : (k : ℕ) → k < tree .count → at m k ACTIVE ≡ activity tree cs k
 
 pub record AfterRest (m m′ : List ℕ) (tree : Tree) (cs : List Call) (j : ℕ) : Type 0 where
-  pub alone : LeftAlone m m′ tree
+  pub alone : KeepsOthers m m′ tree
   pub actives : (t : ℕ) (r : Rule) (k : ℕ) → k < tree .count → at m′ k ACTIVE ≡ activity tree (left t j r ∷ cs) k
-  pub others : (k f : ℕ) → k < 64 → f < 24 → (f ≡ ACTIVE → ⊥) → at m′ k f ≡ at m k f
-
-pub record Restable (m : List ℕ) (j : ℕ) : Type 0 where
-  pub tree : Tree
-  pub calls : List Call
-  pub before : BeforeRest m tree calls j
+  pub others : (k f : ℕ) → k < CLASSES → f < COLUMNS → (f ≡ ACTIVE → ⊥) → at m′ k f ≡ at m k f

@@ -14,10 +14,10 @@ use Rattle.rules.specs.Calls.{Call, left}
 use Rattle.rules.specs.Queues.{waits, headLength}
 use Rattle.rules.specs.Classes.{isWithin, sent, active}
 use Rattle.rules.specs.Fair.{virtualTimeOf}
-use Rattle.state.specs.Table.{at}
+use Rattle.state.specs.Table.{at, CLASSES, CELLS}
 use Rattle.state.specs.Columns.{SENT, FAIR-START, FAIR-SENT, VIRTUAL, ACTIVE}
 use Rattle.state.specs.State.{activity, fairKept}
-use Rattle.fair.specs.Steps.{Planted}
+use Rattle.state.specs.Steps.{Planted}
 
 -- class k lies above class i
 abbrev pub isAbove : Tree → ℕ → ℕ → Bool
@@ -33,16 +33,10 @@ pub record BeforePassing (m : List ℕ) (tree : Tree) (cs : List Call) (j i : �
 
 -- now they have the counts from after it, and nothing else is changed
 pub record AfterPassing (m m′ : List ℕ) (tree : Tree) (cs : List Call) (j i : ℕ) : Type 0 where
-  pub size : length m′ ≡ 1536
+  pub size : length m′ ≡ CELLS
   pub actives : (t : ℕ) (r : Rule) (k : ℕ) → isAbove tree k i ≡ true → at m′ k ACTIVE ≡ activity tree (left t j r ∷ cs) k
-  pub elsewhere : (k f : ℕ) → k < 64 → isAbove tree k i ≡ false → at m′ k f ≡ at m k f
-  pub others : (k f : ℕ) → k < 64 → (f ≡ ACTIVE → ⊥) → at m′ k f ≡ at m k f
-
-pub record Passable (m : List ℕ) (i : ℕ) : Type 0 where
-  pub tree : Tree
-  pub calls : List Call
-  pub leaf : ℕ
-  pub before : BeforePassing m tree calls leaf i
+  pub elsewhere : (k f : ℕ) → k < CLASSES → isAbove tree k i ≡ false → at m′ k f ≡ at m k f
+  pub others : (k f : ℕ) → k < CLASSES → (f ≡ ACTIVE → ⊥) → at m′ k f ≡ at m k f
 
 -- the head of leaf j, of that many bytes, has left; class i, in which j lies, and the classes above it still have the counts from before
 pub record BeforeLifting (m : List ℕ) (tree : Tree) (cs : List Call) (j bytes i : ℕ) : Type 0 where
@@ -57,14 +51,8 @@ pub record BeforeLifting (m : List ℕ) (tree : Tree) (cs : List Call) (j bytes 
 
 -- now they have the counts and virtual times from after it, and nothing else is changed
 pub record AfterLifting (m m′ : List ℕ) (tree : Tree) (cs : List Call) (j i : ℕ) : Type 0 where
-  pub size : length m′ ≡ 1536
+  pub size : length m′ ≡ CELLS
   pub sents : (t : ℕ) (r : Rule) (k : ℕ) → isWithin tree k i ≡ true → at m′ k SENT ≡ sent tree (left t j r ∷ cs) k
   pub virtuals : (t : ℕ) (r : Rule) (k : ℕ) → isWithin tree k i ≡ true → at m′ k VIRTUAL ≡ virtualTimeOf tree (left t j r ∷ cs) k
-  pub elsewhere : (k f : ℕ) → k < 64 → isWithin tree k i ≡ false → at m′ k f ≡ at m k f
-  pub others : (k f : ℕ) → k < 64 → (f ≡ SENT → ⊥) → (f ≡ VIRTUAL → ⊥) → at m′ k f ≡ at m k f
-
-pub record Liftable (m : List ℕ) (bytes i : ℕ) : Type 0 where
-  pub tree : Tree
-  pub calls : List Call
-  pub leaf : ℕ
-  pub before : BeforeLifting m tree calls leaf bytes i
+  pub elsewhere : (k f : ℕ) → k < CLASSES → isWithin tree k i ≡ false → at m′ k f ≡ at m k f
+  pub others : (k f : ℕ) → k < CLASSES → (f ≡ SENT → ⊥) → (f ≡ VIRTUAL → ⊥) → at m′ k f ≡ at m k f

@@ -1,6 +1,6 @@
 -- What the steps of a class that turns active make of the table, from a class on upward: the definitions that their promises cite.
 -- Assumes nothing.
-use Prim.Native.Nat.{ℕ, _+_, _-_, _/_, _^_, _≤_, _<_, min, max}
+use Prim.Native.Nat.{ℕ, _+_, _/_, _≤_, _<_, min, max}
 use mathlib.Core.Path.{_≡_}
 use mathlib.Core.Bool.{Bool, true, false, cond, not, _&&_, _||_}
 use mathlib.Core.List.{List, _∷_}
@@ -9,8 +9,8 @@ use lib.Dec.{eqb}
 use Rattle.curve.specs.Answers.{Least}
 use Rattle.curve.specs.declared.Curve.the-variants.{Straight}
 use Rattle.curve.specs.declared.Piece.{Piece}
-use Rattle.curve.specs.Curves.{RightRate, mostBytes, mostStart}
-use Rattle.curve.specs.Pieces.{Stands, lowerOf}
+use Rattle.curve.specs.Curves.{RightRate}
+use Rattle.curve.specs.Keeping.{mostBytes, mostStart, Stands, lowerOf}
 use Rattle.tree.specs.declared.Tree.{Tree}
 use Rattle.tree.specs.Trees.{isChild, isLeaf}
 use Rattle.tree.specs.Rules.{RightTree}
@@ -19,14 +19,15 @@ use Rattle.rules.specs.Over.{anyOf, largestOf, smallestOf}
 use Rattle.rules.specs.Classes.{isWithin, sent, active}
 use Rattle.rules.specs.Fair.{virtualTimeOf}
 use Rattle.fair.specs.declared.Spread.{Spread}
-use Rattle.state.specs.Table.{at, with}
+use Rattle.state.specs.Table.{at, with, CLASSES, COLUMNS, CELLS}
 use Rattle.state.specs.State.{ShowsTree, ShowsFair, fairKept}
-use Rattle.fair.specs.Steps.{fairIn, Planted, LeftAlone}
-use Rattle.state.specs.Columns.{SHARE, SENT, FAIR-START, FAIR-SENT, VIRTUAL, MARK, ACTIVE}
+use Rattle.state.specs.Steps.{Planted}
+use Rattle.fair.specs.Steps.{fairIn, KeepsOthers}
+use Rattle.state.specs.Columns.{LARGEST, SHARE, SENT, FAIR-START, FAIR-SENT, VIRTUAL, MARK, ACTIVE}
 
 -- a class's virtual time can be worked out from its columns
 pub record Raises (m : List ℕ) (i : ℕ) : Type 0 where
-  pub class : i < 64
+  pub class : i < CLASSES
   pub share : RightRate (at m i SHARE)
   pub sent : at m i SENT ≤ mostBytes
   pub start : at m i FAIR-START ≤ mostStart
@@ -61,7 +62,7 @@ unfoldable pub spreadBelow : List ℕ → Tree → (p i n : ℕ) → Spread
 spreadBelow m tree p i n =
     record {
       any = anyOf n (λ k. othersIn m tree p i k);
-      low = cond (anyOf n (λ k. othersIn m tree p i k)) (smallestOf n (λ k. othersIn m tree p i k) (λ k. at m k VIRTUAL)) (2 ^ 64 - 1);
+      low = cond (anyOf n (λ k. othersIn m tree p i k)) (smallestOf n (λ k. othersIn m tree p i k) (λ k. at m k VIRTUAL)) LARGEST;
       high = largestOf n (λ k. othersIn m tree p i k) (λ k. at m k VIRTUAL);
       last = largestOf n (λ k. isChild tree p k) (λ k. at m k VIRTUAL);
     }
@@ -80,10 +81,6 @@ pub record Family (m : List ℕ) (tree : Tree) (p : ℕ) : Type 0 where
   pub trees : (k : ℕ) → k < tree .count → ShowsTree m tree k
   pub soon : (k : ℕ) → isChild tree p k ≡ true → at m k VIRTUAL ≤ mostStart
 
-pub record HasFamily (m : List ℕ) (p : ℕ) : Type 0 where
-  pub tree : Tree
-  pub family : Family m tree p
-
 -- the parent's new mark, and the piece that the class then keeps
 abbrev pub markIn : List ℕ → Tree → (p i : ℕ) → ℕ
 markIn m tree p i = max (at m p MARK) (metIn m tree p i)
@@ -92,15 +89,11 @@ abbrev pub keptNow : List ℕ → Tree → (p i : ℕ) → Piece
 keptNow m tree p i = lowerOf (at m i SHARE) (fairIn m i) (record { start = markIn m tree p i; sent = at m i SENT })
 
 pub record BeforeStart (m : List ℕ) (tree : Tree) (p i : ℕ) : Type 0 where
-  pub size : length m ≡ 1536
+  pub size : length m ≡ CELLS
   pub family : Family m tree p
   pub child : isChild tree p i ≡ true
   pub raises : Raises m i
   pub mark : at m p MARK ≤ mostStart
-
-pub record Startable (m : List ℕ) (p i : ℕ) : Type 0 where
-  pub tree : Tree
-  pub before : BeforeStart m tree p i
 
 -- the mark, the kept piece and the virtual time, stored
 pub record FairStarted (m m′ : List ℕ) (tree : Tree) (p i : ℕ) : Type 0 where
@@ -128,15 +121,9 @@ pub record BeforeTurn (m : List ℕ) (tree : Tree) (cs : List Call) (j i : ℕ) 
 
 -- now they have those from after it, and nothing else is changed
 pub record AfterTurn (m m′ : List ℕ) (tree : Tree) (cs : List Call) (j i : ℕ) : Type 0 where
-  pub alone : LeftAlone m m′ tree
+  pub alone : KeepsOthers m m′ tree
   pub own : (t n : ℕ) → ShowsChild m′ tree (came t j n ∷ cs) i
   pub mark : at m′ i MARK ≡ at m i MARK
   pub active : at m′ i ACTIVE ≡ at m i ACTIVE
-  pub beneath : (k f : ℕ) → k < tree .count → f < 24 → isWithin tree i k ≡ true → (k ≡ i → ⊥) → at m′ k f ≡ at m k f
+  pub beneath : (k f : ℕ) → k < tree .count → f < COLUMNS → isWithin tree i k ≡ true → (k ≡ i → ⊥) → at m′ k f ≡ at m k f
   pub others : (t n k : ℕ) → k < tree .count → isWithin tree i k ≡ false → ShowsFair m′ tree (came t j n ∷ cs) k
-
-pub record Turnable (m : List ℕ) (i : ℕ) : Type 0 where
-  pub tree : Tree
-  pub calls : List Call
-  pub leaf : ℕ
-  pub before : BeforeTurn m tree calls leaf i

@@ -6,12 +6,14 @@ use state::table::ACTIVE;
 use state::table::CHILD;
 use state::table::FAIR_SENT;
 use state::table::FAIR_START;
+use state::table::LARGEST;
 use state::table::MARK;
 use state::table::PARENT;
 use state::table::SENT;
 use state::table::SHARE;
 use state::table::SIBLING;
 use state::table::VIRTUAL;
+use state::table::Words;
 use state::table::get;
 use state::table::put;
 ghost use mathlib.Core.Path.{_≡_};
@@ -20,11 +22,12 @@ ghost use Prim.Native.Nat.{ℕ, _<_, min, max};
 ghost use Rattle.tree.specs.declared.Tree.{Tree};
 ghost use Rattle.rules.specs.Calls.{Call};
 ghost use Rattle.curve.specs.Curves.{RightRate};
-ghost use Rattle.state.specs.Table.{at};
+ghost use Rattle.state.specs.Table.{at, CLASSES};
+ghost use Rattle.state.specs.Heads.{Some, SomeCalls, EveryCalls};
 ghost use Rattle.state.specs.Columns.{SHARE};
-ghost use Rattle.fair.specs.StepsWaking.{Raises, VirtualStored, otherIn, spreadWith, spreadBelow, metIn, Family, HasFamily, BeforeStart, Startable, FairStarted, BeforeTurn, AfterTurn, Turnable};
-ghost use Rattle.fair.specs.StepsResting.{Passable, BeforePassing, AfterPassing, Liftable, BeforeLifting, AfterLifting};
-ghost use Rattle.fair.specs.Steps.{fairIn, Wakable, BeforeWaking, AfterWaking, Raisable, BeforeRaise, AfterRaise, Restable, BeforeRest, AfterRest};
+ghost use Rattle.fair.specs.StepsWaking.{Raises, VirtualStored, otherIn, spreadWith, spreadBelow, metIn, Family, BeforeStart, FairStarted, BeforeTurn, AfterTurn};
+ghost use Rattle.fair.specs.StepsResting.{BeforePassing, AfterPassing, BeforeLifting, AfterLifting};
+ghost use Rattle.fair.specs.Steps.{fairIn, BeforeWaking, AfterWaking, BeforeRaise, AfterRaise, BeforeRest, AfterRest};
 
 // Of a class's children: whether one is active, without the one that turns active, with the smallest
 // and the largest of their virtual times; and the largest virtual time of all children.
@@ -69,8 +72,8 @@ fn spread_with(s: Spread, virtual_time: u64, other: bool) -> Spread
 }
 
 // Whether a child is active, and another than the one that turns active.
-fn is_other(words: &[u64; 1536], child: usize, class: usize) -> bool
-    requires { ⌜ child < 64 ⌝ }
+fn is_other(words: &Words, child: usize, class: usize) -> bool
+    requires { ⌜ child < CLASSES ⌝ }
     ensures { λ r. ⌜ r ≡ otherIn (now (words .entry)) class child ⌝ }
 {
     if child == class {
@@ -80,13 +83,13 @@ fn is_other(words: &[u64; 1536], child: usize, class: usize) -> bool
 }
 
 // The children of a class as the one child turns active.
-fn spread_of(words: &[u64; 1536], parent: usize, class: usize) -> Spread
-    requires { ⌜ HasFamily (now words) parent ⌝ }
+fn spread_of(words: &Words, parent: usize, class: usize) -> Spread
+    requires { ⌜ Some (λ tree. Family (now words) tree parent) ⌝ }
     ensures { λ r. ⌜ ((tree : Tree) → Family (now (words .entry)) tree parent → r ≡ spreadBelow (now (words .entry)) tree parent class (tree .count)) ⌝ }
 {
     let mut s = Spread {
         any: false,
-        low: 18446744073709551615,
+        low: LARGEST,
         high: 0,
         last: 0,
     };
@@ -101,8 +104,8 @@ fn spread_of(words: &[u64; 1536], parent: usize, class: usize) -> Spread
 
 // "with other children active, the smallest plus the largest of their virtual times, halved and rounded
 // down; with none active, the largest virtual time that any child had when it last turned passive".
-fn meeting(words: &[u64; 1536], parent: usize, class: usize) -> u64
-    requires { ⌜ HasFamily (now words) parent ⌝ }
+fn mark_by_children(words: &Words, parent: usize, class: usize) -> u64
+    requires { ⌜ Some (λ tree. Family (now words) tree parent) ⌝ }
     ensures { λ r. ⌜ ((tree : Tree) → Family (now (words .entry)) tree parent → r ≡ metIn (now (words .entry)) tree parent class) ⌝ }
 {
     let s = spread_of(words, parent, class);
@@ -113,16 +116,16 @@ fn meeting(words: &[u64; 1536], parent: usize, class: usize) -> u64
 }
 
 // The class's share, as a rate.
-fn share_of(words: &[u64; 1536], class: usize) -> u32
-    requires { ⌜ (class < 64) × RightRate (at (now words) class SHARE) ⌝ }
+fn share_of(words: &Words, class: usize) -> u32
+    requires { ⌜ (class < CLASSES) × RightRate (at (now words) class SHARE) ⌝ }
     ensures { λ r. ⌜ r ≡ at (now (words .entry)) class SHARE ⌝ }
 {
     get(words, class, SHARE) as u32
 }
 
 // The piece kept of the class's fair pieces.
-fn fair_piece(words: &[u64; 1536], class: usize) -> Piece
-    requires { ⌜ class < 64 ⌝ }
+fn fair_piece(words: &Words, class: usize) -> Piece
+    requires { ⌜ class < CLASSES ⌝ }
     ensures { λ r. ⌜ r ≡ fairIn (now (words .entry)) class ⌝ }
 {
     Piece {
@@ -132,7 +135,7 @@ fn fair_piece(words: &[u64; 1536], class: usize) -> Piece
 }
 
 // The class's virtual time, worked out anew.
-fn bring_up(words: &mut [u64; 1536], class: usize)
+fn bring_up(words: &mut Words, class: usize)
     requires { ⌜ Raises (now words) class ⌝ }
     ensures { λ r. ⌜ VirtualStored (now (words .entry)) (now (words .exit)) class ⌝ }
 {
@@ -145,11 +148,14 @@ fn bring_up(words: &mut [u64; 1536], class: usize)
 }
 
 // The parent's mark, and the class's fair piece that starts there.
-fn start_fair(words: &mut [u64; 1536], parent: usize, class: usize)
-    requires { ⌜ Startable (now words) parent class ⌝ }
+fn start_fair(words: &mut Words, parent: usize, class: usize)
+    requires { ⌜ Some (λ tree. BeforeStart (now words) tree parent class) ⌝ }
     ensures { λ r. ⌜ ((tree : Tree) → BeforeStart (now (words .entry)) tree parent class → FairStarted (now (words .entry)) (now (words .exit)) tree parent class) ⌝ }
 {
-    let mark = larger(get(words, parent, MARK), meeting(words, parent, class));
+    let mark = larger(
+        get(words, parent, MARK),
+        mark_by_children(words, parent, class),
+    );
     let piece = Piece {
         start: mark,
         sent: get(words, class, SENT),
@@ -162,17 +168,17 @@ fn start_fair(words: &mut [u64; 1536], parent: usize, class: usize)
 }
 
 // A packet has come into the empty leaf: it turns active, and what is above it.
-pub fn wake(words: &mut [u64; 1536], leaf: usize)
-    requires { ⌜ Wakable (now words) leaf ⌝ }
-    ensures { λ r. ⌜ ((tree : Tree) (cs : List Call) → BeforeWaking (now (words .entry)) tree cs leaf → AfterWaking (now (words .entry)) (now (words .exit)) tree cs leaf) ⌝ }
+pub fn wake(words: &mut Words, leaf: usize)
+    requires { ⌜ SomeCalls (λ tree cs. BeforeWaking (now words) tree cs leaf) ⌝ }
+    ensures { λ r. ⌜ EveryCalls (λ tree cs. BeforeWaking (now (words .entry)) tree cs leaf) (λ tree cs. AfterWaking (now (words .entry)) (now (words .exit)) tree cs leaf) ⌝ }
 {
     put(words, leaf, ACTIVE, 1);
     turn_active(words, leaf);
 }
 
 // "An arrival turns the leaf active, then its parent if that was passive, and so upward."
-fn turn_active(words: &mut [u64; 1536], class: usize)
-    requires { ⌜ Turnable (now words) class ⌝ }
+fn turn_active(words: &mut Words, class: usize)
+    requires { ⌜ SomeCalls (λ tree cs. Some (λ leaf. BeforeTurn (now words) tree cs leaf class)) ⌝ }
     ensures { λ r. ⌜ ((tree : Tree) (cs : List Call) (leaf : ℕ) → BeforeTurn (now (words .entry)) tree cs leaf class → AfterTurn (now (words .entry)) (now (words .exit)) tree cs leaf class) ⌝ }
 {
     if class == 0 {
@@ -188,16 +194,16 @@ fn turn_active(words: &mut [u64; 1536], class: usize)
 }
 
 // "the counts and virtual times of the leaf and all above it are brought up".
-pub fn raise(words: &mut [u64; 1536], leaf: usize, bytes: u64)
-    requires { ⌜ Raisable (now words) leaf bytes ⌝ }
-    ensures { λ r. ⌜ ((tree : Tree) (cs : List Call) → BeforeRaise (now (words .entry)) tree cs leaf bytes → AfterRaise (now (words .entry)) (now (words .exit)) tree cs leaf) ⌝ }
+pub fn raise(words: &mut Words, leaf: usize, bytes: u64)
+    requires { ⌜ SomeCalls (λ tree cs. BeforeRaise (now words) tree cs leaf bytes) ⌝ }
+    ensures { λ r. ⌜ EveryCalls (λ tree cs. BeforeRaise (now (words .entry)) tree cs leaf bytes) (λ tree cs. AfterRaise (now (words .entry)) (now (words .exit)) tree cs leaf) ⌝ }
 {
     raise_from(words, leaf, bytes);
 }
 
 // From the class on, up to the root.
-fn raise_from(words: &mut [u64; 1536], class: usize, bytes: u64)
-    requires { ⌜ Liftable (now words) bytes class ⌝ }
+fn raise_from(words: &mut Words, class: usize, bytes: u64)
+    requires { ⌜ SomeCalls (λ tree cs. Some (λ leaf. BeforeLifting (now words) tree cs leaf bytes class)) ⌝ }
     ensures { λ r. ⌜ ((tree : Tree) (cs : List Call) (leaf : ℕ) → BeforeLifting (now (words .entry)) tree cs leaf bytes class → AfterLifting (now (words .entry)) (now (words .exit)) tree cs leaf class) ⌝ }
 {
     let sent = get(words, class, SENT);
@@ -211,17 +217,17 @@ fn raise_from(words: &mut [u64; 1536], class: usize, bytes: u64)
 }
 
 // The leaf's last packet has left: "then emptied classes turn passive".
-pub fn rest(words: &mut [u64; 1536], leaf: usize)
-    requires { ⌜ Restable (now words) leaf ⌝ }
-    ensures { λ r. ⌜ ((tree : Tree) (cs : List Call) → BeforeRest (now (words .entry)) tree cs leaf → AfterRest (now (words .entry)) (now (words .exit)) tree cs leaf) ⌝ }
+pub fn rest(words: &mut Words, leaf: usize)
+    requires { ⌜ SomeCalls (λ tree cs. BeforeRest (now words) tree cs leaf) ⌝ }
+    ensures { λ r. ⌜ EveryCalls (λ tree cs. BeforeRest (now (words .entry)) tree cs leaf) (λ tree cs. AfterRest (now (words .entry)) (now (words .exit)) tree cs leaf) ⌝ }
 {
     put(words, leaf, ACTIVE, 0);
     turn_passive(words, leaf);
 }
 
 // A class has turned passive, and what is above it may.
-fn turn_passive(words: &mut [u64; 1536], class: usize)
-    requires { ⌜ Passable (now words) class ⌝ }
+fn turn_passive(words: &mut Words, class: usize)
+    requires { ⌜ SomeCalls (λ tree cs. Some (λ leaf. BeforePassing (now words) tree cs leaf class)) ⌝ }
     ensures { λ r. ⌜ ((tree : Tree) (cs : List Call) (leaf : ℕ) → BeforePassing (now (words .entry)) tree cs leaf class → AfterPassing (now (words .entry)) (now (words .exit)) tree cs leaf class) ⌝ }
 {
     if class == 0 {

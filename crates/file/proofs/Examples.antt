@@ -1,7 +1,8 @@
--- "The smallest straight tree in full, as words": its file has those words, and in either order it reads as that tree.
+-- "The smallest straight tree in full, as words": its file has those words, and in either order they read as that tree.
 -- Assumes nothing.
 use Prim.Native.Nat.{ℕ, zero, suc, _<_}
-use mathlib.Core.Path.{_≡_, refl, sym}
+use mathlib.Core.Path.{_≡_, refl, sym, subst}
+use mathlib.Core.List.{List}
 use native.Mathlib.Omega.{arith}
 use lib.Dec.{lit≤, lit<}
 use Rattle.curve.specs.Fit.{sumOf}
@@ -13,13 +14,15 @@ use Rattle.tree.specs.Rules.{RightTree}
 use Rattle.tree.proofs.Same.{same-right}
 use Rattle.file.specs.declared.Order.{Order}
 use Rattle.file.specs.declared.Order.the-variants.{Big, Little}
-use Rattle.file.specs.Format.{bodyBytes, wordAt, orderOf, offsetOf, lengthOf, kindCurve, bodyClass, rightKind, fileClass, firstClasses, treeOf, ReadsAs}
+use Rattle.file.specs.Format.{bodyBytes, wordAt, orderOf, offsetOf, lengthOf, bodyClass, rightKind, fileClass, firstClasses, treeOf, ReadsAs}
+use Rattle.curve.specs.Codec.{kindCurve}
 use Rattle.file.specs.Writing.{wordBytes, bytesOf, curveBytes, bodyWords, bodyPlace, numbered, fileWords, fileIn}
-use Rattle.file.specs.Smallest.{smallestWords, smallestTree}
+use Rattle.file.specs.Smallest.{smallestTree}
+use Rattle.file.specs.Theorems.{SmallestFile, SmallestReads}
 use Rattle.file.proofs.RoundTrip.{reads-back}
 use Rattle.file.proofs.WriteLaws.Stars.{star, star-right}
 
-pub smallest-words : fileWords smallestTree ≡ smallestWords
+pub smallest-words : SmallestFile
 unfolding fileWords numbered bodyWords bodyPlace curveBytes bodyBytes classAt smallestTree
 smallest-words = refl
 
@@ -45,5 +48,9 @@ unfolding fileIn fileWords numbered bodyWords bodyPlace curveBytes classAt small
 says Big = refl
 says Little = refl
 
-pub smallest-reads : (order : Order) → ReadsAs (fileIn order smallestTree) Right smallestTree
-smallest-reads order = record { judged = reads-back order smallestTree smallest-right .reads .judged; given = sym (says order) }
+pub smallest-reads : SmallestReads
+unfolding fileIn
+smallest-reads order =
+    let file = fileIn order smallestTree in
+    let reads : ReadsAs file Right smallestTree = record { judged = reads-back order smallestTree smallest-right .reads .judged; given = sym (says order) } in
+    subst (λ (ws : List ℕ). ReadsAs (bytesOf order ws) Right smallestTree) smallest-words reads

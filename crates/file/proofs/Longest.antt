@@ -11,20 +11,18 @@ use Rattle.curve.proofs.Laws.Limits.{front-right}
 use Rattle.tree.specs.declared.Tree.{Tree}
 use Rattle.tree.specs.Trees.{classAt, curveOf, curvesOf, curvesFrom, curveBelow}
 use Rattle.tree.specs.Rules.{RightClass, RightTree}
-use Rattle.file.specs.declared.Order.{Order}
-use Rattle.file.specs.Format.{entryAt, bodyBytes}
-use Rattle.file.specs.Writing.{curveBytes, bodyPlace, totalBytes, fileIn}
+use Rattle.file.specs.Format.{orderOf, entryAt, bodyBytes, treeOf}
+use Rattle.file.specs.Writing.{curveBytes, bodyPlace, totalBytes}
+use Rattle.file.specs.Theorems.{mostFileBytes, FileMost, ReadMost, LongestAttained}
+use Rattle.file.proofs.OneFile.{passed, total-is}
+use Rattle.file.proofs.ReadLaws.Judging.{file-right}
 use Rattle.file.proofs.WriteLaws.Bodies.{body-most, file-length}
 use Rattle.file.proofs.WriteLaws.Stars.{star, star-right}
-
--- the bytes of the longest right file
-abbrev pub mostFileBytes : ℕ
-mostFileBytes = 2052
 
 module _ (tree : Tree) (right : RightTree tree) where
   root-bytes : curveBytes (curveOf tree 0) ≡ 12
   unfolding RightClass curveBytes bodyBytes
-  root-bytes = ap curveBytes (right .bodies 0 (omega (arith, right .count .above)) .curve)
+  root-bytes = ap curveBytes (right .shape .bodies 0 (omega (arith, right .shape .count .above)) .curve)
 
   place-within : (i : ℕ) → bodyPlace tree (suc i) ≤ entryAt (tree .count) + (12 + 24 * i)
   unfolding bodyPlace
@@ -32,18 +30,25 @@ module _ (tree : Tree) (right : RightTree tree) where
   place-within (suc i) = omega (arith, place-within i, body-most (curveOf tree (suc i)))
 
   total-within : (n : ℕ) → n ≡ tree .count → bodyPlace tree n ≤ mostFileBytes
-  total-within zero e = absurd (omega (arith, right .count .above))
-  total-within (suc i) e = omega (arith, place-within i, right .count .below)
+  total-within zero e = absurd (omega (arith, right .shape .count .above))
+  total-within (suc i) e = omega (arith, place-within i, right .shape .count .below)
 
-  -- no right file is longer
-  pub file-most : (order : Order) → length (fileIn order tree) ≤ mostFileBytes
-  file-most order = omega (arith, file-length tree order, total-within (tree .count) refl)
+-- no right file is longer
+pub file-most : FileMost
+file-most order tree right = omega (arith, file-length tree order, total-within tree right (tree .count) refl)
+
+-- nor is one that reads as a tree: it states the total of that tree's file
+pub read-most : ReadMost
+read-most file tree reads =
+    let right = passed file tree reads in
+    let tree-right = file-right file (length file) (reads .judged) in
+    omega (arith, right .total-right .total, total-is (orderOf file) file refl right, total-within (treeOf file) tree-right (treeOf file .count) refl)
 
 -- a root, and 63 leaves with the longest bodies
-abbrev pub longest : Tree
+abbrev longest : Tree
 longest = star 63 (FrontLoaded 2 1 1)
 
-pub longest-right : RightTree longest
+longest-right : RightTree longest
 unfolding sumOf curvesOf curvesFrom curveBelow classAt
 longest-right =
     star-right 63 (FrontLoaded 2 1 1) (lit< tt) (lit< tt)
@@ -55,5 +60,5 @@ unfolding bodyPlace curveBytes bodyBytes classAt
 longest-total = refl
 
 -- and it is that long
-pub longest-attained : (order : Order) → length (fileIn order longest) ≡ mostFileBytes
-longest-attained order = file-length longest order ∙ longest-total
+pub longest-attained : LongestAttained
+longest-attained order = record { tree = longest; right = longest-right; long = file-length longest order ∙ longest-total }

@@ -6,30 +6,33 @@ use mathlib.Core.Bool.{Bool, cond}
 use mathlib.Core.List.{List, [], _∷_, _++_}
 use native.Mathlib.Nat.{le-step, le-refl, le-of-lt}
 use native.Mathlib.Omega.{arith}
-use lib.ListN.{length-append}
+use lib.ListN.{length, length-append}
 use Rattle.tree.specs.declared.Class.{Class}
 use Rattle.tree.specs.declared.Tree.{Tree}
 use Rattle.tree.specs.declared.Verdict.the-variants.{Right}
 use Rattle.tree.specs.Trees.{noClass, classAt, curveOf, SameTree}
 use Rattle.file.specs.declared.Order.{Order}
-use Rattle.file.specs.Format.{mark, version, wordAt, Marked, orderOf, wordOf, versionOf, countOf, totalOf, entryAt, offsetOf, lengthOf, startOf, bodyWord, kindOf, bodyBytes, kindCurve, bodyClass, fileClass, treeOf, RightKind, RightTotal, InPlace, SoundBody, HeaderChecks, BodyChecks, ReadsAs}
-use Rattle.file.specs.Writing.{bytesOf, curveKind, curveNumbers, curveBytes, bodyWords, bodyPlace, totalBytes, numbered, headerWords, entryWords, contentsWords, bodiesWords, fileWords, fileIn}
+use Rattle.file.specs.Format.{mark, version, wordAt, orderOf, wordOf, versionOf, countOf, totalOf, entryAt, offsetOf, lengthOf, startOf, bodyWord, kindOf, bodyBytes, bodyClass, fileClass, treeOf, RightKind, RightTotal, InPlace, SoundBody, HeaderChecks, BodyChecks, ReadsAs}
+use Rattle.file.specs.Writing.{bytesOf, curveBytes, bodyWords, bodyPlace, totalBytes, numbered, headerWords, entryWords, contentsWords, bodiesWords, fileWords, fileIn}
+use Rattle.curve.specs.Codec.{kindCurve, curveKind, curveNumbers}
+use Rattle.curve.proofs.Laws.Codec.{kind-back}
+use Rattle.file.specs.Theorems.{OneFile, FilesOne}
 use Rattle.file.proofs.ReadLaws.Judging.{class-at}
 use Rattle.file.proofs.ReadLaws.KindTable.{kind-right}
 use Rattle.file.proofs.WriteLaws.Bodies.{contents-length, bodies-length, file-length}
 use Rattle.file.proofs.WriteLaws.Checks.{was-kept}
 use Rattle.file.proofs.WriteLaws.Words.{length-bytesOf}
-use Rattle.file.proofs.WriteLaws.Spelled.{AllBytes, Spells, bytes-spelled, marked-order, spells-append, spells-all}
+use Rattle.file.proofs.WriteLaws.Spelled.{Spells, bytes-spelled, marked-order, spells-append, spells-all}
 
 -- what reading has checked of a file that it gives a tree
-record Passed (file : List ℕ) : Type 0 where
+pub record Passed (file : List ℕ) : Type 0 where
   version-right : versionOf file ≡ version
   some : 0 < countOf file
-  total-right : RightTotal file
+  pub total-right : RightTotal file (length file)
   places : (i : ℕ) → i < countOf file → InPlace file i
   bodies : (i : ℕ) → i < countOf file → SoundBody file i
 
-passed : (file : List ℕ) (tree : Tree) → ReadsAs file Right tree → Passed file
+pub passed : (file : List ℕ) (tree : Tree) → ReadsAs file Right tree → Passed file
 unfolding HeaderChecks BodyChecks
 passed file tree reads =
     let two = was-kept (was-kept (reads .judged) .1) in
@@ -39,15 +42,6 @@ passed file tree reads =
     let six = was-kept (five .1) in
     let seven = was-kept (six .1) in
     record { version-right = three .0; some = omega (arith, four .0 .above); total-right = five .0; places = six .0; bodies = seven .0 }
-
--- a kind's curve has that kind
-kind-back : (kind x y z : ℕ) → kind < 4 → curveKind (kindCurve kind x y z) ≡ kind
-unfolding kindCurve
-kind-back zero x y z h = refl
-kind-back (suc zero) x y z h = refl
-kind-back (suc (suc zero)) x y z h = refl
-kind-back (suc (suc (suc zero))) x y z h = refl
-kind-back (suc (suc (suc (suc kind)))) x y z h = absurd (omega arith)
 
 module _ (order : Order) (file : List ℕ) where
   numbers-spelled : (at kind x y z : ℕ) → kind < 4 → wordAt order file at ≡ x → wordAt order file (at + 4) ≡ y → wordAt order file (at + 4 + 4) ≡ z
@@ -119,7 +113,7 @@ module _ (order : Order) (file : List ℕ) where
         let here : i < countOf file = omega arith in
         sym (right .places i here .last (omega arith)) ∙ start-is (suc i) here
 
-    total-is : totalOf file ≡ totalBytes (treeOf file)
+    pub total-is : totalOf file ≡ totalBytes (treeOf file)
     unfolding treeOf
     total-is = last-is (countOf file) refl
 
@@ -150,14 +144,14 @@ module _ (order : Order) (file : List ℕ) where
         bodies-spelled)
 
 -- a file of bytes with the mark in an order that reads as a tree is that tree's file in that order: there is one file
-pub one-file : (order : Order) (file : List ℕ) (tree : Tree) → AllBytes file → Marked order file → ReadsAs file Right tree → file ≡ fileIn order tree
+pub one-file : OneFile
 unfolding fileIn
 one-file order file tree bytes marked reads =
     let right = passed file tree reads in
     let ordered = marked-order order file bytes (marked .first) in
     let spelled = file-spelled order file ordered right (marked .first) in
     let words = fileWords (treeOf file) in
-    bytes-spelled order file words bytes (sym (right .total-right .given) ∙ total-is order file ordered right ∙ sym (file-length (treeOf file) order) ∙ length-bytesOf order words) spelled
+    bytes-spelled order file words bytes (sym (right .total-right .total) ∙ total-is order file ordered right ∙ sym (file-length (treeOf file) order) ∙ length-bytesOf order words) spelled
     ∙ ap (fileIn order) (sym (reads .given))
 
 -- trees that are the same have the same file
@@ -189,6 +183,5 @@ module _ (t u : Tree) (same : SameTree t u) where
   same-file order = ap (bytesOf order) same-words
 
 -- two files of bytes in one order that read as the same tree are one file
-pub files-one : (order : Order) (f g : List ℕ) (t u : Tree) → AllBytes f → AllBytes g → Marked order f → Marked order g
-    → ReadsAs f Right t → ReadsAs g Right u → SameTree t u → f ≡ g
+pub files-one : FilesOne
 files-one order f g t u bf bg mf mg rf rg same = one-file order f t bf mf rf ∙ same-file t u same order ∙ sym (one-file order g u bg mg rg)

@@ -4,3 +4,4 @@ pub mod Judging
 pub mod KindTable
 pub mod Orders
 pub mod Places
+pub mod Prefix

@@ -3,14 +3,15 @@
 use Prim.Native.Nat.{ℕ}
 use mathlib.Core.Path.{_≡_, _∙_, sym, ap}
 use mathlib.Core.List.{List}
+use lib.ListN.{length}
 use Rattle.tree.proofs.Rule.{AtMostOne, rule-one, lowest-one, lowest-none, whole-one, whole-none}
 use Rattle.file.specs.Format.{HeaderChecks, BodyChecks, FileJudged, treeOf, treeBy, ReadsAs}
 use Rattle.file.specs.declared.Reading.{Reading}
 
 -- one verdict
-pub verdict-one : (file : List ℕ) → AtMostOne (FileJudged file)
+pub verdict-one : (bytes : List ℕ) (given : ℕ) → AtMostOne (FileJudged bytes given)
 unfolding HeaderChecks BodyChecks
-verdict-one file =
+verdict-one bytes given =
     rule-one (λ i. whole-none) (λ i j. whole-one)
     (rule-one (λ i. whole-none) (λ i j. whole-one)
     (rule-one (λ i. whole-none) (λ i j. whole-one)
@@ -26,6 +27,6 @@ verdict-one file =
 -- and one tree with it
 pub read-one : (file : List ℕ) (r s : Reading) → ReadsAs file (r .verdict) (r .tree) → ReadsAs file (s .verdict) (s .tree) → r ≡ s
 read-one file r s p q =
-    let same : r .verdict ≡ s .verdict = verdict-one file (r .verdict) (s .verdict) (p .judged) (q .judged) in
+    let same : r .verdict ≡ s .verdict = verdict-one file (length file) (r .verdict) (s .verdict) (p .judged) (q .judged) in
     let tree : r .tree ≡ s .tree = p .given ∙ (ap (treeBy (treeOf file)) same ∙ sym (q .given)) in
     λ i. record { verdict = same i; tree = tree i }

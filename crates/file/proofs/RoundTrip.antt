@@ -8,24 +8,17 @@ use native.Mathlib.Omega.{arith}
 use lib.ListN.{length}
 use Rattle.tree.specs.declared.Class.{Class}
 use Rattle.tree.specs.declared.Tree.{Tree}
-use Rattle.tree.specs.declared.Verdict.the-variants.{Right}
-use Rattle.tree.specs.Trees.{SameTree}
 use Rattle.tree.specs.Rules.{RightClass, RightTree}
-use Rattle.tree.specs.Rules.Rule.{kept}
+use Rattle.tree.specs.Rules.Checking.{kept}
 use Rattle.tree.proofs.Same.{same-right}
 use Rattle.file.specs.declared.Order.{Order}
 use Rattle.file.specs.declared.Order.the-variants.{Big, Little}
-use Rattle.file.specs.Format.{mark, wordAt, Marked, orderOf, countOf, totalOf, entryAt, endOf, startOf, kindOf, treeOf, InPlace, SoundBody, HeaderChecks, BodyChecks, ReadsAs}
+use Rattle.file.specs.Format.{mark, wordAt, Marked, orderOf, countOf, totalOf, entryAt, endOf, startOf, kindOf, treeOf, InPlace, SoundBody, HeaderChecks, BodyChecks}
 use Rattle.file.specs.Writing.{bodyPlace, totalBytes, fileWords, fileIn}
+use Rattle.file.specs.Theorems.{ReadsBack, FileReadsBack}
 use Rattle.file.proofs.WriteLaws.Bodies.{place-first, places-rise, contents-within, file-length}
 use Rattle.file.proofs.WriteLaws.Spelled.{Spells, spells-bytes, bytes-of, marked-order}
 use Rattle.file.proofs.WriteLaws.Said.{file-small, mark-said, version-said, count-said, total-said, offset-said, length-said, class-said, right-kind, tree-said}
-
--- a file reads as a tree, which is the same as this one
-pub record ReadsBack (file : List ℕ) (tree : Tree) : Type 0 where
-  pub read : Tree
-  pub reads : ReadsAs file Right read
-  pub same : SameTree tree read
 
 module _ (order : Order) (file : List ℕ) (tree : Tree) (right : RightTree tree) (ordered : orderOf file ≡ order) (spelled : Spells order file 0 (fileWords tree))
     (long : length file ≡ totalBytes tree) where
@@ -66,7 +59,7 @@ module _ (order : Order) (file : List ℕ) (tree : Tree) (right : RightTree tree
       let here = inside i h in
       record {
         kind = right-kind order file tree ordered spelled i here;
-        class = subst (λ (k : Class). RightClass k i) (sym (class-said order file tree ordered spelled i here)) (right .bodies i here);
+        class = subst (λ (k : Class). RightClass k i) (sym (class-said order file tree ordered spelled i here)) (right .shape .bodies i here);
       }
 
   -- a file that spells a right tree, and nothing more, reads as that tree
@@ -82,12 +75,12 @@ module _ (order : Order) (file : List ℕ) (tree : Tree) (right : RightTree tree
               kept (omega (arith, contents-within tree))
               (kept (marked order (mark-said order file tree ordered spelled))
               (kept (version-said order file tree ordered spelled)
-              (kept (again .count)
-              (kept (record { given = total ∙ sym long; contents = omega (arith, contents-within tree) })
+              (kept (again .shape .count)
+              (kept (record { total = total ∙ sym long; contents = omega (arith, contents-within tree) })
               (kept in-place
               (kept sound
-              (kept (again .depths)
-              (kept (again .places)
+              (kept (again .shape .depths)
+              (kept (again .shape .places)
               (kept (again .fit)
               refl)))))))));
           given = refl;
@@ -96,7 +89,7 @@ module _ (order : Order) (file : List ℕ) (tree : Tree) (right : RightTree tree
       }
 
 -- the file of a tree that keeps the rules reads back as the same tree, in either order
-pub reads-back : (order : Order) (tree : Tree) → RightTree tree → ReadsBack (fileIn order tree) tree
+pub reads-back : FileReadsBack
 unfolding fileIn fileWords
 reads-back order tree right =
     let spelled = spells-bytes order (fileWords tree) (file-small tree right) in

@@ -1,5 +1,5 @@
 -- Document 01, "The class-tree file" and "Numbers of refusal": what a file says, and what it reads as.
--- A file is the list of its bytes.
+-- A file is the list of its bytes. The checks are over the bytes at hand and the number of bytes given, which of a whole file is its length.
 -- Assumes nothing.
 use Prim.Native.Nat.{ℕ, zero, suc, _+_, _-_, _*_, _≤_, _<_}
 use mathlib.Core.Path.{_≡_}
@@ -10,10 +10,9 @@ use lib.ListN.{length, getD, replicate}
 use lib.Dec.{ltb, eqb}
 use Rattle.curve.specs.Curves.{Within}
 use Rattle.curve.specs.Fit.{CurvesFit}
-use Rattle.curve.specs.declared.Curve.{Curve}
-use Rattle.curve.specs.declared.Curve.the-variants.{None, Straight, FrontLoaded, Delayed}
+use Rattle.curve.specs.Codec.{kinds, kindCurve}
 use Rattle.tree.specs.Rules.{RightClass, RightDepth, RightPlace, OfTree, OfClasses}
-use Rattle.tree.specs.Trees.{noClass, emptyTree, curvesOf}
+use Rattle.tree.specs.Trees.{mostClasses, noClass, emptyTree, curvesOf}
 use Rattle.tree.specs.declared.Class.{Class}
 use Rattle.tree.specs.declared.Tree.{Tree}
 use Rattle.tree.specs.declared.Verdict.{Verdict}
@@ -98,21 +97,13 @@ bodyWord file i k = wordOf file (offsetOf file i + 4 * k)
 abbrev pub kindOf : List ℕ → ℕ → ℕ
 kindOf file i = bodyWord file i 2
 
--- the table of kinds, its first and last columns: "0: 12", "1: 16", "2: 24", "3: 20" body bytes. Another kind has none.
+-- the table of kinds (its first two columns are `kindCurve` of the curve layer), its first and last columns: "0: 12", "1: 16", "2: 24", "3: 20" body bytes. Another kind has none.
 unfoldable pub bodyBytes : ℕ → ℕ
 bodyBytes zero = 12
 bodyBytes (suc zero) = 16
 bodyBytes (suc (suc zero)) = 24
 bodyBytes (suc (suc (suc zero))) = 20
 bodyBytes (suc (suc (suc (suc kind)))) = 0
-
--- the same table, its first two columns: "0 no real-time curve: none", "1 straight: m", "2 front-loaded: m1, d, m2", "3 delayed: d, m"
-unfoldable pub kindCurve : ℕ → ℕ → ℕ → ℕ → Curve
-kindCurve zero x y z = None
-kindCurve (suc zero) x y z = Straight x
-kindCurve (suc (suc zero)) x y z = FrontLoaded x y z
-kindCurve (suc (suc (suc zero))) x y z = Delayed x y
-kindCurve (suc (suc (suc (suc kind)))) x y z = None
 
 -- the meaning of a body: a class with its parent, share and curve
 unfoldable pub bodyClass : List ℕ → ℕ → Class
@@ -124,12 +115,12 @@ bodyClass file i = record {
 
 -- a kind of the table, with a body of its length
 pub record RightKind (kind bytes : ℕ) : Type 0 where
-  pub known : kind < 4
+  pub known : kind < kinds
   pub long : bytes ≡ bodyBytes kind
 
 -- the same as a test
 unfoldable pub rightKind : ℕ → ℕ → Bool
-rightKind kind bytes = ltb kind 4 && eqb bytes (bodyBytes kind)
+rightKind kind bytes = ltb kind kinds && eqb bytes (bodyBytes kind)
 
 -- the class that a file gives class i: what its body says, or no class where its kind is unknown or against the length
 unfoldable pub fileClass : List ℕ → ℕ → Class
@@ -144,13 +135,13 @@ firstClasses file (suc n) = firstClasses file n ++ (fileClass file n ∷ [])
 unfoldable pub treeOf : List ℕ → Tree
 treeOf file = record {
   count = countOf file;
-  classes = firstClasses file (countOf file) ++ replicate (64 - countOf file) noClass;
+  classes = firstClasses file (countOf file) ++ replicate (mostClasses - countOf file) noClass;
 }
 
 -- 5, "total differs from the bytes given, or contents don't fit in them": what is kept
-pub record RightTotal (file : List ℕ) : Type 0 where
-  pub given : totalOf file ≡ length file
-  pub contents : entryAt (countOf file) ≤ length file
+pub record RightTotal (bytes : List ℕ) (given : ℕ) : Type 0 where
+  pub total : totalOf bytes ≡ given
+  pub contents : entryAt (countOf bytes) ≤ given
 
 -- "its length is not 12, 16, 20 or 24": the lengths of the kinds' bodies
 pub record RightLength (bytes : ℕ) : Type 0 where
@@ -172,15 +163,16 @@ pub record SoundBody (file : List ℕ) (i : ℕ) : Type 0 where
 
 -- "Reading checks 1 to 10 in that order, each over all classes before the next, and names the lowest class at fault
 -- (0 for 1 to 5 and 10; the last class for a wrong end)."
-unfoldable pub HeaderChecks : List ℕ → (Verdict → Type 0) → Verdict → Type 0
-HeaderChecks file Next =
-    OfTree 1 (headerBytes ≤ length file)
-    (OfTree 2 (Marked Big file ⊎ Marked Little file)
-    (OfTree 3 (versionOf file ≡ version)
-    (OfTree 4 (Within 2 64 (countOf file))
-    (OfTree 5 (RightTotal file)
+unfoldable pub HeaderChecks : List ℕ → ℕ → (Verdict → Type 0) → Verdict → Type 0
+HeaderChecks bytes given Next =
+    OfTree 1 (headerBytes ≤ given)
+    (OfTree 2 (Marked Big bytes ⊎ Marked Little bytes)
+    (OfTree 3 (versionOf bytes ≡ version)
+    (OfTree 4 (Within 2 mostClasses (countOf bytes))
+    (OfTree 5 (RightTotal bytes given)
     Next))))
 
+-- from 6 on the number of bytes given is the total that the file states
 unfoldable pub BodyChecks : List ℕ → (Verdict → Type 0) → Verdict → Type 0
 BodyChecks file Next =
     OfClasses 6 (countOf file) (InPlace file)
@@ -190,8 +182,8 @@ BodyChecks file Next =
     (OfTree 10 (CurvesFit (curvesOf (treeOf file)))
     Next))))
 
-abbrev pub FileJudged : List ℕ → Verdict → Type 0
-FileJudged file = HeaderChecks file (BodyChecks file (λ v. v ≡ Right))
+abbrev pub FileJudged : List ℕ → ℕ → Verdict → Type 0
+FileJudged bytes given = HeaderChecks bytes given (BodyChecks bytes (λ v. v ≡ Right))
 
 -- the tree that is read with a verdict: the one that was judged, or, "A refusal gives a tree of no classes."
 abbrev pub treeBy : Tree → Verdict → Tree
@@ -200,5 +192,5 @@ treeBy tree (Refused why class) = emptyTree
 
 -- what a file reads as
 pub record ReadsAs (file : List ℕ) (verdict : Verdict) (tree : Tree) : Type 0 where
-  pub judged : FileJudged file verdict
+  pub judged : FileJudged file (length file) verdict
   pub given : tree ≡ treeBy (treeOf file) verdict

@@ -2,4 +2,5 @@
 pub mod Format
 pub mod Writing
 pub mod Smallest
+pub mod Theorems
 pub mod Steps

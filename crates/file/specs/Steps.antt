@@ -1,27 +1,27 @@
 -- What the reader's private functions tell one another. No public promise cites a definition of this file.
 -- Assumes nothing.
-use Prim.Native.Nat.{ℕ, _+_, _≤_}
+use Prim.Native.Nat.{ℕ, _+_, _*_, _≤_}
 use mathlib.Core.Path.{_≡_}
 use mathlib.Core.Bool.{cond}
 use mathlib.Core.List.{List}
 use lib.ListN.{length}
-use Rattle.curve.specs.declared.Curve.{Curve}
 use Rattle.tree.specs.Rules.{OfClasses, EveryClass}
-use Rattle.tree.specs.Trees.{noClass}
+use Rattle.tree.specs.Trees.{mostClasses, noClass}
 use Rattle.tree.specs.declared.Class.{Class}
 use Rattle.tree.specs.declared.Verdict.{Verdict}
 use Rattle.tree.specs.declared.Verdict.the-variants.{Right}
-use Rattle.file.specs.Format.{wordAt, orderOf, countOf, RightTotal, RightLength, HeaderChecks, InPlace, kindCurve, rightKind}
+use Rattle.file.specs.Format.{wordAt, orderOf, countOf, RightTotal, RightLength, HeaderChecks, InPlace, rightKind}
+use Rattle.curve.specs.Codec.{kindCurve}
 use Rattle.curve.specs.Curves.{Within}
 use Rattle.file.specs.declared.Order.{Order}
 use Rattle.file.specs.declared.reader.entries.Entry.{Entry}
 
--- the header has passed its checks, and says this order and this count
-pub record Opened (file : List ℕ) (order : Order) (count : ℕ) : Type 0 where
+-- the header has passed its checks, with so many bytes given, and says this order and this count
+pub record Opened (file : List ℕ) (given : ℕ) (order : Order) (count : ℕ) : Type 0 where
   pub own : order ≡ orderOf file
   pub counted : count ≡ countOf file
-  pub within : Within 2 64 count
-  pub right : RightTotal file
+  pub within : Within 2 mostClasses count
+  pub right : RightTotal file given
 
 -- the entry at a place of the contents: offset and length, and where the next one stands
 unfoldable pub entryOf : List ℕ → Order → ℕ → Entry
@@ -37,8 +37,8 @@ pub record Fitting (offset bytes start total : ℕ) : Type 0 where
 abbrev pub Passed : Verdict → Type 0
 Passed v = v ≡ Right
 
-abbrev pub HeaderJudged : List ℕ → Verdict → Type 0
-HeaderJudged file = HeaderChecks file Passed
+abbrev pub HeaderJudged : List ℕ → ℕ → Verdict → Type 0
+HeaderJudged file given = HeaderChecks file given Passed
 
 -- the verdict of check 6 alone
 abbrev pub PlacesJudged : List ℕ → Verdict → Type 0
@@ -52,17 +52,19 @@ pub record Lying (file : List ℕ) (offset bytes : ℕ) : Type 0 where
   pub long : RightLength bytes
   pub within : offset + bytes ≤ length file
 
--- the curve of a kind whose numbers stand from a place on
-unfoldable pub curveFrom : Order → List ℕ → ℕ → ℕ → Curve
-curveFrom order file at kind = kindCurve kind (wordAt order file at) (wordAt order file (at + 4)) (wordAt order file (at + 8))
+-- word k of a body with this offset
+abbrev pub wordFrom : Order → List ℕ → ℕ → ℕ → ℕ
+wordFrom order file offset k = wordAt order file (offset + 4 * k)
 
 -- the class that a body of this offset and length says
 unfoldable pub classFrom : Order → List ℕ → ℕ → ℕ → Class
 classFrom order file offset bytes =
-    cond (rightKind (wordAt order file (offset + 8)) bytes)
+    cond (rightKind (wordFrom order file offset 2) bytes)
     (record {
-      parent = wordAt order file offset;
-      share = wordAt order file (offset + 4);
-      curve = curveFrom order file (offset + 12) (wordAt order file (offset + 8));
+      parent = wordFrom order file offset 0;
+      share = wordFrom order file offset 1;
+      curve =
+          kindCurve (wordFrom order file offset 2)
+          (wordFrom order file offset 3) (wordFrom order file offset 4) (wordFrom order file offset 5);
     })
     noClass

@@ -5,7 +5,7 @@ use mathlib.Core.Path.{_≡_}
 use mathlib.Core.List.{List, [], _∷_, _++_}
 use lib.ListN.{length, drop}
 use Rattle.curve.specs.declared.Curve.{Curve}
-use Rattle.curve.specs.declared.Curve.the-variants.{None, Straight, FrontLoaded, Delayed}
+use Rattle.curve.specs.Codec.{curveKind, curveNumbers}
 use Rattle.tree.specs.declared.Class.{Class}
 use Rattle.tree.specs.declared.Tree.{Tree}
 use Rattle.tree.specs.declared.Verdict.{Verdict}
@@ -26,19 +26,6 @@ wordBytes Little n = n % 256 ∷ n / 256 % 256 ∷ n / 65536 % 256 ∷ n / 16777
 unfoldable pub bytesOf : Order → List ℕ → List ℕ
 bytesOf order [] = []
 bytesOf order (w ∷ ws) = wordBytes order w ++ bytesOf order ws
-
--- the table of kinds, its first two columns: a curve's kind and its numbers
-abbrev pub curveKind : Curve → ℕ
-curveKind None = 0
-curveKind (Straight m) = 1
-curveKind (FrontLoaded m₁ d m₂) = 2
-curveKind (Delayed d m) = 3
-
-abbrev pub curveNumbers : Curve → List ℕ
-curveNumbers None = []
-curveNumbers (Straight m) = m ∷ []
-curveNumbers (FrontLoaded m₁ d m₂) = m₁ ∷ d ∷ m₂ ∷ []
-curveNumbers (Delayed d m) = d ∷ m ∷ []
 
 -- "Body: parent, share, kind, then numbers."
 unfoldable pub bodyWords : Class → List ℕ
@@ -99,13 +86,13 @@ writtenBy tree Right = Written.Bytes (totalBytes tree)
 writtenBy tree (Refused why class) = Written.Refused why class
 
 -- the buffer by the verdict: "it writes the total and no byte beyond, and on refusal none"
-abbrev pub leftBy : Tree → List ℕ → Verdict → List ℕ
-leftBy tree old Right = fileOf tree ++ drop (totalBytes tree) old
-leftBy tree old (Refused why class) = old
+abbrev pub bufferBy : Tree → List ℕ → Verdict → List ℕ
+bufferBy tree old Right = fileOf tree ++ drop (totalBytes tree) old
+bufferBy tree old (Refused why class) = old
 
 -- what writing a tree to a buffer answers, and leaves in the buffer
 pub record Writes (tree : Tree) (old : List ℕ) (answer : Written) (new : List ℕ) : Type 0 where
   pub verdict : Verdict
   pub judged : WriteJudged tree (length old) verdict
   pub answered : answer ≡ writtenBy tree verdict
-  pub left : new ≡ leftBy tree old verdict
+  pub buffer : new ≡ bufferBy tree old verdict

@@ -6,6 +6,7 @@ mod header;
 mod words;
 
 ghost use mathlib.Core.Path.{_≡_};
+ghost use lib.ListN.{length};
 ghost use Rattle.tree.specs.Trees.{emptyTree};
 ghost use Rattle.tree.specs.Rules.{Judged};
 ghost use Rattle.tree.specs.declared.Verdict.the-variants.{Right, Refused};
@@ -28,7 +29,7 @@ pub fn read(file: &[u8]) -> Reading
 
 // A file whose header has passed its checks.
 fn opened(file: &[u8]) -> Reading
-    requires { ⌜ HeaderJudged (now file) Right ⌝ }
+    requires { ⌜ HeaderJudged (now file) (length (now file)) Right ⌝ }
     ensures { λ r. ⌜ ReadsAs (now (file .entry)) (r .verdict) (r .tree) ⌝ }
 {
     let order = words::order_of(file);

@@ -1,17 +1,18 @@
 // Writing a class-tree file, always big-endian. `sets old at new` is a list with the elements of `new` from place `at` on.
 ghost use mathlib.Core.Path.{_≡_};
 ghost use Prim.Native.Nat.{_+_, _≤_};
-ghost use mathlib.Core.List.{_∷_};
 ghost use lib.ListN.{length};
 ghost use lib.Seq.{sets};
 ghost use Rattle.tree.specs.Trees.{curveOf};
 ghost use Rattle.tree.specs.Rules.{RightCount, RightTree};
 ghost use Rattle.file.specs.Format.{headerBytes, entryAt};
-ghost use Rattle.file.specs.Writing.{wordBytes, bytesOf, curveKind, curveNumbers, curveBytes, bodyWords, totalBytes, headerWords, contentsWords, bodiesWords, Writes};
+ghost use Rattle.file.specs.Writing.{wordBytes, bytesOf, curveBytes, bodyWords, totalBytes, headerWords, contentsWords, bodiesWords, Writes};
 use crate::Order;
 use crate::format::MARK;
 use crate::format::VERSION;
-use curve::Curve;
+use crate::format::body_bytes;
+use crate::format::entry_at;
+use curve::codec::encode;
 use tree::Class;
 use tree::Refusal;
 use tree::Tree;
@@ -34,73 +35,36 @@ fn put_word(out: &mut [u8], at: usize, word: u32)
     out[at + 3] = (word % 256) as u8;
 }
 
-// The bytes of the body of a class with this curve.
-fn curve_bytes(curve: Curve) -> u32
-    ensures { λ r. ⌜ r ≡ curveBytes curve ⌝ }
-{
-    match curve {
-        Curve::None => 12,
-        Curve::Straight { rate: _ } => 16,
-        Curve::FrontLoaded {
-            first: _,
-            bend: _,
-            last: _,
-        } => 24,
-        Curve::Delayed { bend: _, rate: _ } => 20,
-    }
-}
-
-// The kind and the numbers of a curve, from the third word of a body on.
-fn put_curve(body: &mut [u8], curve: Curve)
-    requires { ⌜ length (now body) ≡ curveBytes curve ⌝ }
-    ensures { λ r. ⌜ now (body .exit) ≡ sets (now (body .entry)) 8 (bytesOf Order.Big (curveKind curve ∷ curveNumbers curve)) ⌝ }
-{
-    match curve {
-        Curve::None => put_word(body, 8, 0),
-        Curve::Straight { rate } => {
-            put_word(body, 8, 1);
-            put_word(body, 12, rate);
-        }
-        Curve::FrontLoaded { first, bend, last } => {
-            put_word(body, 8, 2);
-            put_word(body, 12, first);
-            put_word(body, 16, bend);
-            put_word(body, 20, last);
-        }
-        Curve::Delayed { bend, rate } => {
-            put_word(body, 8, 3);
-            put_word(body, 12, bend);
-            put_word(body, 16, rate);
-        }
-    }
-}
-
-// The body of a class, into its own part of the buffer.
+// The body of a class, into its own part of the buffer: parent, share, kind, and the numbers that the part has room for.
 fn put_body(body: &mut [u8], class: Class)
     requires { ⌜ length (now body) ≡ curveBytes (class .curve) ⌝ }
     ensures { λ r. ⌜ now (body .exit) ≡ bytesOf Order.Big (bodyWords class) ⌝ }
 {
     let curve = class.curve;
-    put_word(body, 0, class.parent);
-    put_word(body, 4, class.share);
-    put_curve(body, curve);
+    let code = encode(curve);
+    let words = [
+        class.parent,
+        class.share,
+        code.kind,
+        code.first,
+        code.second,
+        code.third,
+    ];
+    let mut k = 0;
+    while k < body.len() / 4 {
+        put_word(body, 4 * k, words[k]);
+        k += 1;
+    }
 }
 
-// The bytes of the body of a class.
-fn body_bytes(tree: Tree, i: u32) -> u32
+// The bytes of the body of a class of a tree.
+fn class_bytes(tree: Tree, i: u32) -> u32
     ensures { λ r. ⌜ r ≡ curveBytes (curveOf tree i) ⌝ }
 {
     let class = tree::class_at(tree, i);
     let curve = class.curve;
-    curve_bytes(curve)
-}
-
-// Where the contents entry of a class stands; of the class past the last, the end of the contents.
-fn entry_at(i: u32) -> u32
-    requires { ⌜ i ≤ 64 ⌝ }
-    ensures { λ r. ⌜ r ≡ entryAt i ⌝ }
-{
-    16 + 8 * i
+    let code = encode(curve);
+    body_bytes(code.kind)
 }
 
 // The total bytes of a tree's file: the place after the last body.
@@ -109,9 +73,9 @@ fn total_bytes(tree: Tree) -> u32
     ensures { λ r. ⌜ r ≡ totalBytes tree ⌝ }
 {
     let count = tree.count;
-    let mut at = entry_at(count);
+    let mut at = entry_at(count) as u32;
     for i in 0..count {
-        at += body_bytes(tree, i);
+        at += class_bytes(tree, i);
     }
     at
 }
@@ -135,10 +99,10 @@ fn put_contents(tree: Tree, out: &mut [u8])
     ensures { λ r. ⌜ now (out .exit) ≡ sets (now (out .entry)) headerBytes (bytesOf Order.Big (contentsWords tree (tree .count))) ⌝ }
 {
     let count = tree.count;
-    let mut at = entry_at(count);
+    let mut at = entry_at(count) as u32;
     for i in 0..count {
-        let entry = entry_at(i) as usize;
-        let bytes = body_bytes(tree, i);
+        let entry = entry_at(i);
+        let bytes = class_bytes(tree, i);
         put_word(out, entry, at);
         put_word(out, entry + 4, bytes);
         at += bytes;
@@ -152,9 +116,9 @@ fn put_bodies(tree: Tree, out: &mut [u8])
     ensures { λ r. ⌜ now (out .exit) ≡ sets (now (out .entry)) (entryAt (tree .count)) (bytesOf Order.Big (bodiesWords tree (tree .count))) ⌝ }
 {
     let count = tree.count;
-    let mut at = entry_at(count) as usize;
+    let mut at = entry_at(count);
     for i in 0..count {
-        let end = at + body_bytes(tree, i) as usize;
+        let end = at + class_bytes(tree, i) as usize;
         put_body(&mut out[at..end], tree::class_at(tree, i));
         at = end;
     }

@@ -6,14 +6,21 @@ use mathlib.Core.List.{List}
 use Rattle.tree.specs.declared.Tree.{Tree}
 use Rattle.file.specs.declared.Reading.{Reading}
 use Rattle.file.proofs.ReadOne.{read-one}
+use Rattle.rules.specs.declared.Arrival.{Arrival}
+use Rattle.rules.specs.declared.Arrival.the-variants.{Accepted}
+use Rattle.rules.specs.declared.Departure.{Departure}
+use Rattle.rules.specs.declared.Departure.the-variants.{Leaves, NoneWaits}
 use Rattle.rules.specs.Calls.{History}
 use Rattle.rules.specs.Answers.{started}
 use Rattle.state.specs.State.{Shows, Reached}
-use Rattle.sched.proofs.ShowsOne.{shows-one, start-one, arrive-one, depart-one}
+use Rattle.state.proofs.ShowsOne.{shows-one}
+use Rattle.state.specs.Heads.{EveryHistory}
+use Rattle.sched.specs.Promises.{ArriveRight, DepartRight}
+use Rattle.sched.proofs.One.{start-one, arrive-one, depart-one, arrive-refused, depart-refused}
 use Rattle.sched.proofs.Asking.{head-times-one}
 use Rattle.host.specs.Numbers.{verdictNumber, verdictClass, arrivalNumber, packetNumber, timesNumbers, departureNumber, departureNumbers}
 use Rattle.host.specs.Words.{treeSaid}
-use Rattle.host.specs.Promises.{StartTold, StartFileTold, ArriveTold, DepartTold, HeadTold}
+use Rattle.host.specs.Promises.{StartTold, StartFileTold, ArriveTold, DepartTold, HeadTold, ArriveToldRefused, DepartToldRefused}
 
 -- two values, each the number of one of two answers that are equal
 alike : {A B : Type 0} {x y : B} {a b : A} (f : A → B) → a ≡ b → x ≡ f a → y ≡ f b → x ≡ y
@@ -58,3 +65,20 @@ module _ (m₀ l₀ : List ℕ) (reached : Reached m₀ l₀) where
 
   pub head-told-one : (class : ℕ) (out out′ : List ℕ) → HeadTold m₀ l₀ class out → HeadTold m₀ l₀ class out′ → out ≡ out′
   head-told-one class out out′ p q = alike timesNumbers (head-times-one reached class (p .times) (q .times) (p .right) (q .right)) (p .written) (q .written)
+
+-- a refused call leaves the state as it was
+module _ (m₀ l₀ : List ℕ) (reached : Reached m₀ l₀) {m l : List ℕ} {said : ℕ} (some : said ≡ 0 → ⊥) where
+  arrival-refused : (stamp class bytes : ℕ) (a : Arrival) → said ≡ arrivalNumber a → EveryHistory m₀ l₀ (λ h. ArriveRight h stamp class bytes a m l) → (m ≡ m₀) × (l ≡ l₀)
+  arrival-refused stamp class bytes (Accepted number) e f = absurd (some e)
+  arrival-refused stamp class bytes (Arrival.Refused why) e f = arrive-refused m₀ l₀ reached stamp class bytes why m l f
+
+  departure-refused : (stamp : ℕ) (a : Departure) → said ≡ departureNumber a → EveryHistory m₀ l₀ (λ h. DepartRight h stamp a m l) → (m ≡ m₀) × (l ≡ l₀)
+  departure-refused stamp (Leaves packet) e f = absurd (some e)
+  departure-refused stamp NoneWaits e f = absurd (some e)
+  departure-refused stamp (Departure.Refused why) e f = depart-refused m₀ l₀ reached stamp why m l f
+
+pub arrive-told-refused : ArriveToldRefused
+arrive-told-refused m₀ l₀ reached stamp class bytes said packet m l told some = arrival-refused m₀ l₀ reached some stamp class bytes (told .answer) (told .number) (told .right)
+
+pub depart-told-refused : DepartToldRefused
+depart-told-refused m₀ l₀ reached stamp said out m l told some = departure-refused m₀ l₀ reached some stamp (told .answer) (told .number) (told .right)

@@ -23,7 +23,7 @@ start-of {stamp = stamp} {v = v} {m = m} {l = l} e = subst (λ (t : Tree). Start
 
 -- the tree of a right file is right
 pub reads-judged : (file : List ℕ) (tree : Tree) → ReadsAs file Right tree → Judged tree Right
-reads-judged file tree reads = subst⁻¹ (λ (t : Tree). Judged t Right) (reads .given) (right-judged _ (file-right file (reads .judged)))
+reads-judged file tree reads = subst⁻¹ (λ (t : Tree). Judged t Right) (reads .given) (right-judged _ (file-right file _ (reads .judged)))
 
 none-started : (tree : Tree) (stamp : ℕ) (v : Verdict) → tree ≡ emptyTree → started tree stamp v ≡ record { tree = emptyTree; first = stamp; calls = [] }
 none-started tree stamp Right e = ap (λ (t : Tree). record { tree = t; first = stamp; calls = [] }) e

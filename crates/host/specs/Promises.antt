@@ -10,10 +10,9 @@ use Rattle.file.specs.Format.{ReadsAs}
 use Rattle.rules.specs.declared.Times.{Times}
 use Rattle.rules.specs.declared.Arrival.{Arrival}
 use Rattle.rules.specs.declared.Departure.{Departure}
-use Rattle.rules.specs.Calls.{History}
-use Rattle.rules.specs.Lawful.{Lawful}
 use Rattle.rules.specs.Answers.{started}
-use Rattle.state.specs.State.{Shows}
+use Rattle.state.specs.State.{Shows, Reached}
+use Rattle.state.specs.Heads.{EveryHistory}
 use Rattle.sched.specs.Asked.{HeadTimes}
 use Rattle.sched.specs.Promises.{StartRight, ArriveRight, DepartRight}
 use Rattle.host.specs.Numbers.{verdictNumber, verdictClass, arrivalNumber, packetNumber, timesNumbers, departureNumber, departureNumbers}
@@ -39,17 +38,27 @@ pub record ArriveTold (m₀ l₀ : List ℕ) (stamp class bytes said packet : �
   pub answer : Arrival
   pub number : said ≡ arrivalNumber answer
   pub written : packet ≡ packetNumber answer
-  pub right : (h : History) → Lawful h → Shows m₀ l₀ h → ArriveRight h stamp class bytes answer m l
+  pub right : EveryHistory m₀ l₀ (λ h. ArriveRight h stamp class bytes answer m l)
 
 -- of a departure
 pub record DepartTold (m₀ l₀ : List ℕ) (stamp said : ℕ) (out m l : List ℕ) : Type 0 where
   pub answer : Departure
   pub number : said ≡ departureNumber answer
   pub written : out ≡ departureNumbers answer
-  pub right : (h : History) → Lawful h → Shows m₀ l₀ h → DepartRight h stamp answer m l
+  pub right : EveryHistory m₀ l₀ (λ h. DepartRight h stamp answer m l)
 
 -- of the times of a leaf's head
 pub record HeadTold (m l : List ℕ) (class : ℕ) (out : List ℕ) : Type 0 where
   pub times : Times
   pub written : out ≡ timesNumbers times
-  pub right : (h : History) → Lawful h → Shows m l h → HeadTimes (h .tree) (h .calls) class times
+  pub right : EveryHistory m l (λ h. HeadTimes (h .tree) (h .calls) class times)
+
+-- "a refusal there gives back the same state": a call that answers the number of a refusal leaves both arrays as they were
+abbrev pub ArriveToldRefused : Type 0
+ArriveToldRefused =
+    (m₀ l₀ : List ℕ) → Reached m₀ l₀ → (stamp class bytes said packet : ℕ) (m l : List ℕ) → ArriveTold m₀ l₀ stamp class bytes said packet m l → (said ≡ 0 → ⊥)
+    → (m ≡ m₀) × (l ≡ l₀)
+
+abbrev pub DepartToldRefused : Type 0
+DepartToldRefused =
+    (m₀ l₀ : List ℕ) → Reached m₀ l₀ → (stamp said : ℕ) (out m l : List ℕ) → DepartTold m₀ l₀ stamp said out m l → (said ≡ 0 → ⊥) → (m ≡ m₀) × (l ≡ l₀)

@@ -8,7 +8,8 @@ use lib.Dec.{ltb}
 use Rattle.tree.specs.declared.Class.{Class}
 use Rattle.tree.specs.declared.Tree.{Tree}
 use Rattle.tree.specs.Trees.{noClass}
-use Rattle.file.specs.Format.{kindCurve}
+use Rattle.state.specs.Table.{CLASSES}
+use Rattle.curve.specs.Codec.{kinds, kindCurve}
 
 -- the word at a place; 0 past the end
 abbrev pub wordAt : List ℕ → ℕ → ℕ
@@ -18,7 +19,7 @@ wordAt words at = getD words at 0
 -- A kind of fewer numbers leaves the last of the three unread.
 unfoldable pub classFrom : List ℕ → ℕ → Class
 classFrom words at =
-    cond (ltb (wordAt words (at + 2)) 4)
+    cond (ltb (wordAt words (at + 2)) kinds)
     (record {
       parent = wordAt words at;
       share = wordAt words (at + 1);
@@ -33,4 +34,4 @@ firstClasses words (suc n) = firstClasses words n ++ (classFrom words (1 + 6 * n
 
 -- the tree that the words say. "A tree is its count and the classes numbered below it; nothing else held with it counts."
 unfoldable pub treeSaid : List ℕ → Tree
-treeSaid words = record { count = wordAt words 0; classes = firstClasses words 64 }
+treeSaid words = record { count = wordAt words 0; classes = firstClasses words CLASSES }

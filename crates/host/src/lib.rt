@@ -8,14 +8,15 @@ use crate::numbers::times_numbers;
 use crate::numbers::verdict_class;
 use crate::numbers::verdict_number;
 use crate::words::tree_of;
+use state::table::Lengths;
+use state::table::Words;
 ghost use mathlib.Core.Path.{_≡_};
 ghost use lib.ListN.{length};
-ghost use Rattle.rules.specs.Calls.{History};
 ghost use Rattle.rules.specs.Clock.{clock};
 ghost use Rattle.rules.specs.Queues.{queue};
 ghost use Rattle.rules.specs.Fair.{virtualTimeOf};
-ghost use Rattle.rules.specs.Lawful.{Lawful};
-ghost use Rattle.state.specs.State.{Shows, Reached};
+ghost use Rattle.state.specs.State.{Reached};
+ghost use Rattle.state.specs.Heads.{EveryHistory};
 ghost use Rattle.host.specs.Words.{treeSaid};
 ghost use Rattle.host.specs.Promises.{StartTold, StartFileTold, ArriveTold, DepartTold, HeadTold};
 
@@ -26,8 +27,8 @@ mod words;
 // the refusal, with the class at fault in `fault`.
 #[no_mangle]
 pub extern "C" fn hfsc_start_words(
-    words: &mut [u64; 1536],
-    lengths: &mut [u16; 4096],
+    words: &mut Words,
+    lengths: &mut Lengths,
     tree: &[u32],
     stamp: u32,
     fault: &mut u32,
@@ -43,8 +44,8 @@ pub extern "C" fn hfsc_start_words(
 // A state started from a tree file. A refused file gives the state of no classes, as a refused tree does.
 #[no_mangle]
 pub extern "C" fn hfsc_start_file(
-    words: &mut [u64; 1536],
-    lengths: &mut [u16; 4096],
+    words: &mut Words,
+    lengths: &mut Lengths,
     file: &[u8],
     stamp: u32,
     fault: &mut u32,
@@ -64,8 +65,8 @@ pub extern "C" fn hfsc_start_file(
 // or the number of the refusal.
 #[no_mangle]
 pub extern "C" fn hfsc_arrive(
-    words: &mut [u64; 1536],
-    lengths: &mut [u16; 4096],
+    words: &mut Words,
+    lengths: &mut Lengths,
     stamp: u32,
     class: u32,
     length: u32,
@@ -83,8 +84,8 @@ pub extern "C" fn hfsc_arrive(
 // The link asks for a packet. The answer is 0, with what leaves in `out`, or the number of the refusal.
 #[no_mangle]
 pub extern "C" fn hfsc_depart(
-    words: &mut [u64; 1536],
-    lengths: &mut [u16; 4096],
+    words: &mut Words,
+    lengths: &mut Lengths,
     stamp: u32,
     out: &mut [u64; 8],
 ) -> u32
@@ -99,39 +100,34 @@ pub extern "C" fn hfsc_depart(
 
 // The clock.
 #[no_mangle]
-pub extern "C" fn hfsc_clock(words: &[u64; 1536], lengths: &[u16; 4096]) -> u64
+pub extern "C" fn hfsc_clock(words: &Words, lengths: &Lengths) -> u64
     requires { ⌜ Reached (now words) (now lengths) ⌝ }
-    ensures { λ r. ⌜ ((h : History) → Lawful h → Shows (now (words .entry)) (now (lengths .entry)) h → r ≡ clock (h .calls)) ⌝ }
+    ensures { λ r. ⌜ EveryHistory (now (words .entry)) (now (lengths .entry)) (λ h. r ≡ clock (h .calls)) ⌝ }
 {
     sched::readers::clock(words, lengths)
 }
 
 // How many packets wait in a class.
 #[no_mangle]
-pub extern "C" fn hfsc_waiting(words: &[u64; 1536], lengths: &[u16; 4096], class: u32) -> u64
+pub extern "C" fn hfsc_waiting(words: &Words, lengths: &Lengths, class: u32) -> u64
     requires { ⌜ Reached (now words) (now lengths) ⌝ }
-    ensures { λ r. ⌜ ((h : History) → Lawful h → Shows (now (words .entry)) (now (lengths .entry)) h → r ≡ length (queue (h .calls) class)) ⌝ }
+    ensures { λ r. ⌜ EveryHistory (now (words .entry)) (now (lengths .entry)) (λ h. r ≡ length (queue (h .calls) class)) ⌝ }
 {
     sched::readers::waiting(words, lengths, class)
 }
 
 // The virtual time of a class.
 #[no_mangle]
-pub extern "C" fn hfsc_virtual_time(words: &[u64; 1536], lengths: &[u16; 4096], class: u32) -> u64
+pub extern "C" fn hfsc_virtual_time(words: &Words, lengths: &Lengths, class: u32) -> u64
     requires { ⌜ Reached (now words) (now lengths) ⌝ }
-    ensures { λ r. ⌜ ((h : History) → Lawful h → Shows (now (words .entry)) (now (lengths .entry)) h → r ≡ virtualTimeOf (h .tree) (h .calls) class) ⌝ }
+    ensures { λ r. ⌜ EveryHistory (now (words .entry)) (now (lengths .entry)) (λ h. r ≡ virtualTimeOf (h .tree) (h .calls) class) ⌝ }
 {
     sched::readers::virtual_time(words, lengths, class)
 }
 
 // Whether a leaf's head has an eligible time and a deadline, and both, in `out`.
 #[no_mangle]
-pub extern "C" fn hfsc_head_times(
-    words: &[u64; 1536],
-    lengths: &[u16; 4096],
-    class: u32,
-    out: &mut [u64; 3],
-)
+pub extern "C" fn hfsc_head_times(words: &Words, lengths: &Lengths, class: u32, out: &mut [u64; 3])
     requires { ⌜ Reached (now words) (now lengths) ⌝ }
     ensures { λ r. ⌜ HeadTold (now (words .entry)) (now (lengths .entry)) class (now (out .exit)) ⌝ }
 {

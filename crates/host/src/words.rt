@@ -1,10 +1,11 @@
 // A tree as words: the count, then six words a class.
-use curve::Curve;
+use curve::codec::KINDS;
+use curve::codec::decode;
+use state::table::CLASSES;
 use tree::Class;
 use tree::Tree;
 ghost use mathlib.Core.Path.{_≡_};
 ghost use Prim.Native.Nat.{_+_, _<_, _^_};
-ghost use Rattle.file.specs.Format.{kindCurve};
 ghost use Rattle.host.specs.Words.{wordAt, classFrom, treeSaid};
 
 // The word at a place; 0 past the end.
@@ -14,34 +15,18 @@ fn word(tree: &[u32], at: usize) -> u32
     if at < tree.len() { tree[at] } else { 0 }
 }
 
-// The curve of a kind, with its numbers.
-fn curve_of(kind: u32, x: u32, y: u32, z: u32) -> Curve
-    ensures { λ r. ⌜ r ≡ kindCurve kind x y z ⌝ }
-{
-    match kind {
-        1 => Curve::Straight { rate: x },
-        2 => Curve::FrontLoaded {
-            first: x,
-            bend: y,
-            last: z,
-        },
-        3 => Curve::Delayed { bend: x, rate: y },
-        _ => Curve::None,
-    }
-}
-
 // The class whose six words stand from a place on; no class where the kind is unknown.
 fn class_of(tree: &[u32], at: usize) -> Class
     requires { ⌜ at + 6 < 2 ^ 64 ⌝ }
     ensures { λ r. ⌜ r ≡ classFrom (now (tree .entry)) at ⌝ }
 {
     let kind = word(tree, at + 2);
-    if 4 <= kind {
+    if KINDS <= kind {
         return tree::no_class();
     }
     let parent = word(tree, at);
     let share = word(tree, at + 1);
-    let curve = curve_of(
+    let curve = decode(
         kind,
         word(tree, at + 3),
         word(tree, at + 4),
@@ -61,7 +46,7 @@ pub(crate) fn tree_of(words: &[u32]) -> Tree
     let mut tree = tree::empty();
     tree.count = word(words, 0);
     let mut i: usize = 0;
-    while i < 64 {
+    while i < CLASSES {
         tree.classes[i] = class_of(words, 1 + 6 * i);
         i += 1;
     }

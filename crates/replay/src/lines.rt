@@ -5,10 +5,12 @@ ghost use lib.ListN.{length};
 ghost use Rattle.state.specs.State.{Reached};
 use crate::answers;
 use calls::Line;
+use state::table::Lengths;
+use state::table::Words;
 use tree::Tree;
 
 // How far a replay has come.
-pub struct Run {
+pub struct Progress {
     // the number of the line
     pub line: u64,
     // the printed bytes that wait to be written
@@ -18,10 +20,10 @@ pub struct Run {
 }
 
 // Before the first line.
-pub fn before() -> Run
+pub fn before() -> Progress
     ensures { λ r. ⌜ r .used ≡ 0 ⌝ }
 {
-    Run {
+    Progress {
         line: 0,
         used: 0,
         is_started: false,
@@ -30,7 +32,7 @@ pub fn before() -> Run
 }
 
 // At the next line. No file has 2^64 of them.
-pub fn counted(run: Run) -> Run
+pub fn counted(run: Progress) -> Progress
     ensures { λ r. ⌜ r .used ≡ run .used ⌝ }
 {
     let mut next = run;
@@ -39,7 +41,7 @@ pub fn counted(run: Run) -> Run
 }
 
 // After what was printed is written.
-pub fn flushed(run: Run, is_going: bool) -> Run
+pub fn flushed(run: Progress, is_going: bool) -> Progress
     ensures { λ r. ⌜ r .used ≡ 0 ⌝ }
 {
     let mut next = run;
@@ -49,7 +51,7 @@ pub fn flushed(run: Run, is_going: bool) -> Run
 }
 
 // With so many printed bytes that wait.
-fn printed(run: Run, used: usize) -> Run
+fn printed(run: Progress, used: usize) -> Progress
     ensures { λ r. ⌜ r .used ≡ used ⌝ }
 {
     let mut next = run;
@@ -58,7 +60,7 @@ fn printed(run: Run, used: usize) -> Run
 }
 
 // After `start`.
-fn started(run: Run, used: usize) -> Run
+fn started(run: Progress, used: usize) -> Progress
     ensures { λ r. ⌜ r .used ≡ used ⌝ }
 {
     let mut next = run;
@@ -70,12 +72,12 @@ fn started(run: Run, used: usize) -> Run
 // Replays the next line, which is lent without its end.
 pub fn replay(
     tree: Tree,
-    words: &mut [u64; 1536],
-    lengths: &mut [u16; 4096],
+    words: &mut Words,
+    lengths: &mut Lengths,
     out: &mut [u8],
     line: &[u8],
-    run: Run,
-) -> Run
+    run: Progress,
+) -> Progress
     requires { ⌜ Reached (now words) (now lengths) ⌝ }
     requires { ⌜ run .used < length (now out) ⌝ }
     ensures { λ r. ⌜ Reached (now (words .exit)) (now (lengths .exit)) ⌝ }
@@ -91,12 +93,12 @@ pub fn replay(
 // A line before which no call was replayed: `start`.
 fn first(
     tree: Tree,
-    words: &mut [u64; 1536],
-    lengths: &mut [u16; 4096],
+    words: &mut Words,
+    lengths: &mut Lengths,
     out: &mut [u8],
     line: &[u8],
-    run: Run,
-) -> Run
+    run: Progress,
+) -> Progress
     requires { ⌜ Reached (now words) (now lengths) ⌝ }
     requires { ⌜ run .used < length (now out) ⌝ }
     ensures { λ r. ⌜ Reached (now (words .exit)) (now (lengths .exit)) ⌝ }
@@ -112,12 +114,12 @@ fn first(
 
 // A line after `start`.
 fn later(
-    words: &mut [u64; 1536],
-    lengths: &mut [u16; 4096],
+    words: &mut Words,
+    lengths: &mut Lengths,
     out: &mut [u8],
     line: &[u8],
-    run: Run,
-) -> Run
+    run: Progress,
+) -> Progress
     requires { ⌜ Reached (now words) (now lengths) ⌝ }
     requires { ⌜ run .used < length (now out) ⌝ }
     ensures { λ r. ⌜ Reached (now (words .exit)) (now (lengths .exit)) ⌝ }
@@ -142,8 +144,8 @@ fn later(
 fn start(
     tree: Tree,
     stamp: u32,
-    words: &mut [u64; 1536],
-    lengths: &mut [u16; 4096],
+    words: &mut Words,
+    lengths: &mut Lengths,
     out: &mut [u8],
     used: usize,
 ) -> usize
@@ -156,8 +158,8 @@ fn start(
 }
 
 fn arrive(
-    words: &mut [u64; 1536],
-    lengths: &mut [u16; 4096],
+    words: &mut Words,
+    lengths: &mut Lengths,
     stamp: u32,
     class: u32,
     bytes: u32,
@@ -174,8 +176,8 @@ fn arrive(
 }
 
 fn depart(
-    words: &mut [u64; 1536],
-    lengths: &mut [u16; 4096],
+    words: &mut Words,
+    lengths: &mut Lengths,
     stamp: u32,
     out: &mut [u8],
     used: usize,
@@ -190,7 +192,7 @@ fn depart(
 }
 
 // A line that makes no call here: one that says nothing is passed over, and any other ends the replay.
-fn other(out: &mut [u8], call: Line, run: Run) -> Run
+fn other(out: &mut [u8], call: Line, run: Progress) -> Progress
     requires { ⌜ run .used < length (now out) ⌝ }
     ensures { λ r. ⌜ r .used < length (now (out .exit)) ⌝ }
 {
@@ -202,7 +204,7 @@ fn other(out: &mut [u8], call: Line, run: Run) -> Run
 }
 
 // Names the line and what is wrong with it, and ends the replay.
-pub fn faulty(out: &mut [u8], run: Run, wrong: &[u8]) -> Run
+pub fn faulty(out: &mut [u8], run: Progress, wrong: &[u8]) -> Progress
     requires { ⌜ run .used < length (now out) ⌝ }
     ensures { λ r. ⌜ r .used < length (now (out .exit)) ⌝ }
 {

@@ -6,12 +6,16 @@ ghost use Rattle.state.specs.State.{Reached};
 ghost use Rattle.replay.specs.Text.{EndsAt, InFront};
 use crate::lines;
 use crate::output;
+use state::table::CELLS;
+use state::table::Lengths;
+use state::table::PLACES;
+use state::table::Words;
 use tree::Tree;
 
 // Replays the calls of the open file over the tree.
 pub fn replay(tree: Tree, fd: i32, name: &[u8]) {
-    let mut words = [0u64; 1536];
-    let mut lengths = [0u16; 4096];
+    let mut words = [0u64; CELLS];
+    let mut lengths = [0u16; PLACES];
     let mut text = io::large_buffer();
     let mut out = io::large_buffer();
     sched::start(tree::empty(), 0, &mut words, &mut lengths);
@@ -32,8 +36,8 @@ fn turns(
     tree: Tree,
     fd: i32,
     name: &[u8],
-    words: &mut [u64; 1536],
-    lengths: &mut [u16; 4096],
+    words: &mut Words,
+    lengths: &mut Lengths,
     text: &mut [u8],
     out: &mut [u8],
 )

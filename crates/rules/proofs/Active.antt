@@ -19,6 +19,7 @@ use Rattle.rules.specs.Over.{anyOf}
 use Rattle.rules.specs.Classes.{isWithin, active}
 use Rattle.rules.specs.Choice.{Choice, GoesDown, reached, down}
 use Rattle.rules.specs.Lawful.{Grown, LawfulCalls}
+use Rattle.rules.specs.Sentences.{Numbers, LeafActive, InteriorActive}
 use Rattle.rules.proofs.Tests.{never, decided, and-left, and-right, and-both, or-either, or-left, or-right, same-test, equal-or-not}
 use Rattle.rules.proofs.Over.{any-of, any-which}
 use Rattle.rules.proofs.Trees.{leaf-class, child-class, within-self, within-leaf, within-split, within-parent, root-interior}
@@ -36,41 +37,40 @@ active-which tree cs i e =
     let r = any-which (tree .count) (λ j. isWithin tree i j && waits cs j) e in
     (r .0, r .1, and-left (isWithin tree i (r .0)) _ (r .2), and-right (isWithin tree i (r .0)) _ (r .2))
 
+-- "A leaf is active while a packet waits in it"
+pub leaf-active : LeafActive
+leaf-active tree grown cs i leaf =
+    same-test (active tree cs i) (waits cs i)
+    (λ e.
+    let r = active-which tree cs i e in
+    subst (λ (x : ℕ). waits cs x ≡ true) (sym (within-leaf tree grown i (r .0) leaf (r .1) (r .2))) (r .3))
+    (λ e. active-of tree cs i i (leaf-class tree i leaf) (within-self tree grown i) e)
+
+pub child-active : (tree : Tree) → Grown tree → (cs : List Call) (p i : ℕ) → isChild tree p i ≡ true → active tree cs i ≡ true → active tree cs p ≡ true
+child-active tree grown cs p i child e =
+    let r = active-which tree cs i e in
+    active-of tree cs p (r .0) (r .1) (within-parent tree grown p i (r .0) child (r .1) (r .2)) (r .3)
+
+-- "an interior class while a child is active"
+pub interior-active : InteriorActive
+interior-active tree grown cs law i inner =
+    same-test (active tree cs i) (anyOf (tree .count) (λ k. isChild tree i k && active tree cs k))
+    (λ e.
+    let r = active-which tree cs i e in
+    ⊎-elim (λ (q : i ≡ r .0). never (waits-leaf tree cs law (r .0) (r .3)) (ap (isLeaf tree) (sym q) ∙ inner))
+    (λ (s : (k : ℕ) × (isChild tree i k ≡ true) × (isWithin tree k (r .0) ≡ true)).
+    any-of (tree .count) (λ k. isChild tree i k && active tree cs k) (s .0) (child-class tree i (s .0) (s .1))
+    (and-both (isChild tree i (s .0)) _ (s .1) (active-of tree cs (s .0) (r .0) (r .1) (s .2) (r .3))))
+    (within-split tree grown i (r .0) (r .1) (r .2)))
+    (λ e.
+    let r = any-which (tree .count) (λ k. isChild tree i k && active tree cs k) e in
+    child-active tree grown cs i (r .0) (and-left (isChild tree i (r .0)) _ (r .2)) (and-right (isChild tree i (r .0)) _ (r .2)))
+
 module _ (tree : Tree) (grown : Grown tree) (cs : List Call) where
-  -- "A leaf is active while a packet waits in it"
-  pub leaf-active : (i : ℕ) → isLeaf tree i ≡ true → active tree cs i ≡ waits cs i
-  leaf-active i leaf =
-      same-test (active tree cs i) (waits cs i)
-      (λ e.
-      let r = active-which tree cs i e in
-      subst (λ (x : ℕ). waits cs x ≡ true) (sym (within-leaf tree grown i (r .0) leaf (r .1) (r .2))) (r .3))
-      (λ e. active-of tree cs i i (leaf-class tree i leaf) (within-self tree grown i) e)
-
-  pub child-active : (p i : ℕ) → isChild tree p i ≡ true → active tree cs i ≡ true → active tree cs p ≡ true
-  child-active p i child e =
-      let r = active-which tree cs i e in
-      active-of tree cs p (r .0) (r .1) (within-parent tree grown p i (r .0) child (r .1) (r .2)) (r .3)
-
-  -- "an interior class while a child is active"
-  pub interior-active : LawfulCalls tree cs → (i : ℕ) → isLeaf tree i ≡ false
-      → active tree cs i ≡ anyOf (tree .count) (λ k. isChild tree i k && active tree cs k)
-  interior-active law i inner =
-      same-test (active tree cs i) (anyOf (tree .count) (λ k. isChild tree i k && active tree cs k))
-      (λ e.
-      let r = active-which tree cs i e in
-      ⊎-elim (λ (q : i ≡ r .0). never (waits-leaf tree cs law (r .0) (r .3)) (ap (isLeaf tree) (sym q) ∙ inner))
-      (λ (s : (k : ℕ) × (isChild tree i k ≡ true) × (isWithin tree k (r .0) ≡ true)).
-      any-of (tree .count) (λ k. isChild tree i k && active tree cs k) (s .0) (child-class tree i (s .0) (s .1))
-      (and-both (isChild tree i (s .0)) _ (s .1) (active-of tree cs (s .0) (r .0) (r .1) (s .2) (r .3))))
-      (within-split tree grown i (r .0) (r .1) (r .2)))
-      (λ e.
-      let r = any-which (tree .count) (λ k. isChild tree i k && active tree cs k) e in
-      child-active i (r .0) (and-left (isChild tree i (r .0)) _ (r .2)) (and-right (isChild tree i (r .0)) _ (r .2)))
-
   -- the leaf that a rule chooses has a packet waiting
 
   goes-waits : (j i : ℕ) → GoesDown tree cs j i → active tree cs i ≡ true → waits cs j ≡ true
-  goes-waits j i (reached leaf) e = sym (leaf-active j leaf) ∙ e
+  goes-waits j i (reached leaf) e = sym (leaf-active tree grown cs j leaf) ∙ e
   goes-waits j i (down {k = k} first rest) e = goes-waits j k rest (first .meant .isActive)
 
   fair-waits : (j i : ℕ) → i ≡ 0 → GoesDown tree cs j i → waits cs j ≡ true
@@ -129,7 +129,7 @@ tail-length : (ns : List ℕ) → isNonempty ns ≡ true → length ns ≡ lengt
 tail-length [] e = never e refl
 tail-length (n ∷ ns) e = omega arith
 
-pub numbers : (tree : Tree) → Grown tree → (cs : List Call) → LawfulCalls tree cs → (j : ℕ) → headNumber cs j + length (queue cs j) ≡ nextNumber cs j
+pub numbers : Numbers
 unfolding LawfulCalls headNumber nextNumber queue
 numbers tree grown [] law j = refl
 numbers tree grown (came at k n ∷ cs) law j =
@@ -139,7 +139,7 @@ numbers tree grown (came at k n ∷ cs) law j =
 numbers tree grown (left at k r ∷ cs) law j =
     ⊎-elim
     (λ (q : eqb k j ≡ true).
-    let w = subst (λ (x : ℕ). waits cs x ≡ true) (eqb-true k j q) (choice-waits tree grown cs at k r (law .0 .1)) in
+    let w = subst (λ (x : ℕ). waits cs x ≡ true) (eqb-true k j q) (choice-waits tree grown cs at k r (law .0 .finds)) in
     rw q (omega (arith, tail-length (queue cs j) w, numbers tree grown cs (law .1) j)))
     (λ (q : eqb k j ≡ false). rw q (numbers tree grown cs (law .1) j)) (decided (eqb k j))
 numbers tree grown (idle at ∷ cs) law j = numbers tree grown cs (law .1) j

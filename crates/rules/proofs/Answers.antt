@@ -1,14 +1,11 @@
 -- The rules name one answer and one history after it, for every call, and never get stuck; and the history after it is lawful again.
 -- Assumes nothing.
-use Prim.Native.Nat.{ℕ, _+_, _-_, _%_, _<_}
+use Prim.Native.Nat.{ℕ, _+_, _%_, _<_}
 use native.Mathlib.Omega.{arith}
 use mathlib.Core.Path.{_≡_, refl, sym, _∙_, ap, ap₂, subst}
 use mathlib.Core.Logic.{_⊎_, inl, inr, ⊎-elim}
-use mathlib.Core.Bool.{Bool, true, false, not, cond, _&&_}
+use mathlib.Core.Bool.{Bool, true, false}
 use mathlib.Core.List.{List, [], _∷_}
-use lib.ListN.{length}
-use lib.Dec.{leb, ltb}
-use borrow.Author.Tests.{leb-true, leb-false, ltb-false, not-false, le-leb, lt-leb, le-ltb}
 use Rattle.curve.proofs.Laws.Answers.{least-one}
 use Rattle.curve.proofs.Laws.Times.{deadline-exists, eligible-exists}
 use Rattle.tree.specs.declared.Tree.{Tree}
@@ -31,16 +28,19 @@ use Rattle.rules.specs.declared.Arrival.{Arrival}
 use Rattle.rules.specs.declared.Arrival.the-variants.{Accepted}
 use Rattle.rules.specs.declared.Departure.{Departure}
 use Rattle.rules.specs.declared.Departure.the-variants.{Leaves, NoneWaits}
-use Rattle.rules.specs.Limits.{longest, room, end, wheel, tooFar, weigh}
+use Rattle.rules.specs.Limits.{wheel, weigh}
 use Rattle.rules.specs.Calls.{Call, came, left, idle, History}
 use Rattle.rules.specs.Clock.{clock, lastStamp, elapsedTicks}
-use Rattle.rules.specs.Queues.{queue, waits, headLength, headNumber, nextNumber, accepted}
+use Rattle.rules.specs.Queues.{waits, headLength, headNumber, nextNumber}
 use Rattle.rules.specs.Leaves.{pieces, sentRealTime}
 use Rattle.rules.specs.Over.{anyOf}
 use Rattle.rules.specs.Choice.{hasCurve, Choice, NothingWaits}
-use Rattle.rules.specs.Lawful.{Timely, Admitted, Allowed, LawfulCalls, Grown, Lawful}
-use Rattle.rules.specs.Answers.{Check, Outcome, passed, refused, outcome, ticks, nextClock, departureChecks, arrivalChecks, withCall, Arrives, TimesOf, IsHead, Departs, started, Starts}
-use Rattle.rules.proofs.Tests.{never, decided, is-false, and-left, and-right}
+use Rattle.rules.specs.Lawful.{Allowed, LawfulCalls, Grown, Lawful}
+use Rattle.rules.specs.Checks.{Check, Outcome, passed, refused, outcome, departureChecks, arrivalChecks}
+use Rattle.rules.specs.Answers.{ticks, nextClock, withCall, Arrives, TimesOf, IsHead, Departs, started, Starts}
+use Rattle.rules.specs.Sentences.{StampKept, FirstKept, StartsOne, ArrivesOne, DepartsOne, StartsSome, ArrivesSome, DepartsSome, NoClassesArrive, NoClassesDepart}
+use Rattle.rules.proofs.Tests.{never, decided, is-false}
+use Rattle.rules.proofs.Allowed.{allowed-elapsed, left-allowed}
 use Rattle.rules.proofs.Over.{any-which, any-none}
 use Rattle.rules.proofs.Trees.{leaf-class, curve-rising}
 use Rattle.rules.proofs.Queues.{waits-leaf}
@@ -48,14 +48,6 @@ use Rattle.rules.proofs.Active.{choice-waits, choice-leaf}
 use Rattle.rules.proofs.Choice.{choice-one, choice-exists}
 
 -- checks
-
-first-holds : (fails : Bool) (number : ℕ) (rest : Outcome) → cond fails (refused number) rest ≡ passed → (fails ≡ false) × (rest ≡ passed)
-first-holds true number rest e = let z : _≡_ {A = ℕ} 0 1 = cc in absurd (omega arith)
-first-holds false number rest e = (refl, e)
-
-pub checks-hold : (c : Check) (cs : List Check) → outcome (c ∷ cs) ≡ passed → (c .fails ≡ false) × (outcome cs ≡ passed)
-unfolding outcome
-checks-hold c cs e = first-holds (c .fails) (c .number) (outcome cs) e
 
 apart : {A : Type 0} {o : Outcome} {number : ℕ} → o ≡ passed → o ≡ refused number → A
 apart p q = let z : _≡_ {A = ℕ} 0 1 = cc in absurd (omega arith)
@@ -77,10 +69,10 @@ none-known : Known (outcome [])
 unfolding outcome
 none-known = inl refl
 
-departure-known : (h : History) (stamp : ℕ) → Known (outcome (departureChecks h stamp))
+departure-known : (h : History) (stamp : ℕ) → Known (outcome (departureChecks (h .calls) (ticks h stamp)))
 departure-known h stamp = check-known StampTooFar _ _ (check-known ClockFull _ _ none-known)
 
-arrival-known : (h : History) (stamp j n : ℕ) → Known (outcome (arrivalChecks h stamp j n))
+arrival-known : (h : History) (stamp j n : ℕ) → Known (outcome (arrivalChecks (h .tree) (h .calls) (ticks h stamp) j n))
 arrival-known h stamp j n =
     check-known StampTooFar _ _
     (check-known ClockFull _ _
@@ -88,18 +80,18 @@ arrival-known h stamp j n =
 
 -- an arrival
 
-pub arrives-one : (h : History) (stamp j n : ℕ) (a b : Arrival) (x y : History) → Arrives h stamp j n a x → Arrives h stamp j n b y → (a ≡ b) × (x ≡ y)
+pub arrives-one : ArrivesOne
 arrives-one h stamp j n (Accepted k) (Accepted l) x y p q = (ap (λ (m : ℕ). Accepted m) (p .numbered ∙ sym (q .numbered)), p .after ∙ sym (q .after))
 arrives-one h stamp j n (Accepted k) (Arrival.Refused w) x y p q = apart (p .checked) (q .checked)
 arrives-one h stamp j n (Arrival.Refused v) (Accepted l) x y p q = apart (q .checked) (p .checked)
 arrives-one h stamp j n (Arrival.Refused v) (Arrival.Refused w) x y p q = (ap (λ (z : Refusal). Arrival.Refused z) (same-refusal v w (p .checked) (q .checked)), p .after ∙ sym (q .after))
 
-pub arrives-some : (h : History) (stamp j n : ℕ) → (a : Arrival) × (x : History) × Arrives h stamp j n a x
+pub arrives-some : ArrivesSome
 arrives-some h stamp j n =
     ⊎-elim
-    (λ (e : outcome (arrivalChecks h stamp j n) ≡ passed).
+    (λ (e : outcome (arrivalChecks (h .tree) (h .calls) (ticks h stamp) j n) ≡ passed).
     (Accepted (nextNumber (h .calls) j), withCall h (came (nextClock h stamp) j n), record { checked = e; numbered = refl; after = refl }))
-    (λ (e : (why : Refusal) × (outcome (arrivalChecks h stamp j n) ≡ refused (numberOf why))). (Arrival.Refused (e .0), h, record { checked = e .1; after = refl }))
+    (λ (e : (why : Refusal) × (outcome (arrivalChecks (h .tree) (h .calls) (ticks h stamp) j n) ≡ refused (numberOf why))). (Arrival.Refused (e .0), h, record { checked = e .1; after = refl }))
     (arrival-known h stamp j n)
 
 -- a departure
@@ -119,7 +111,7 @@ packet-one tree cs p q class rule hp hq =
     in
     λ i. record { class = class i; number = number i; length = length i; rule = rule i; times = times i }
 
-pub departs-one : (h : History) → Lawful h → (stamp : ℕ) (a b : Departure) (x y : History) → Departs h stamp a x → Departs h stamp b y → (a ≡ b) × (x ≡ y)
+pub departs-one : DepartsOne
 departs-one h law stamp (Leaves p) (Leaves q) x y d e =
     let same = choice-one (h .tree) (h .calls) (nextClock h stamp) (p .class) (q .class) (p .rule) (q .rule) (d .chosen) (e .chosen) in (
       ap (λ (z : Packet). Leaves z) (packet-one (h .tree) (h .calls) p q (same .0) (same .1) (d .head) (e .head)),
@@ -153,10 +145,10 @@ nothing-waits h law none j =
     never e (any-none (h .tree .count) (waits (h .calls)) none j (leaf-class (h .tree) j (waits-leaf (h .tree) (h .calls) (law .lawful) j e))))
     (λ (e : waits (h .calls) j ≡ false). e) (decided (waits (h .calls) j))
 
-pub departs-some : (h : History) → Lawful h → (stamp : ℕ) → (a : Departure) × (x : History) × Departs h stamp a x
+pub departs-some : DepartsSome
 departs-some h law stamp =
     ⊎-elim
-    (λ (e : outcome (departureChecks h stamp) ≡ passed).
+    (λ (e : outcome (departureChecks (h .calls) (ticks h stamp)) ≡ passed).
     ⊎-elim
     (λ (some : anyOf (h .tree .count) (waits (h .calls)) ≡ true).
     let w = any-which (h .tree .count) (waits (h .calls)) some in
@@ -169,66 +161,39 @@ departs-some h law stamp =
     (λ (none : anyOf (h .tree .count) (waits (h .calls)) ≡ false).
     (NoneWaits, withCall h (idle (nextClock h stamp)), record { checked = e; nothing = nothing-waits h law none; after = refl }))
     (decided (anyOf (h .tree .count) (waits (h .calls)))))
-    (λ (e : (why : Refusal) × (outcome (departureChecks h stamp) ≡ refused (numberOf why))). (Departure.Refused (e .0), h, record { checked = e .1; after = refl }))
+    (λ (e : (why : Refusal) × (outcome (departureChecks (h .calls) (ticks h stamp)) ≡ refused (numberOf why))). (Departure.Refused (e .0), h, record { checked = e .1; after = refl }))
     (departure-known h stamp)
 
 -- the history after a call is lawful
-
-timely : (h : History) (stamp : ℕ) → leb tooFar (ticks h stamp) ≡ false → ltb end (nextClock h stamp) ≡ false → Timely (h .calls) (nextClock h stamp)
-timely h stamp near last =
-    record {
-      forward = omega arith;
-      near = omega (arith, leb-false tooFar (ticks h stamp) near);
-      inTime = ltb-false end (nextClock h stamp) last;
-    }
-
-admitted : (h : History) (j n : ℕ) → not (isLeaf (h .tree) j) ≡ false → not (leb 1 n && leb n longest) ≡ false
-    → leb room (length (queue (h .calls) j)) ≡ false → ltb end (accepted (h .calls) + weigh n) ≡ false → Admitted (h .tree) (h .calls) j n
-admitted h j n leaf long full bytes =
-    let inside = not-false (leb 1 n && leb n longest) long in
-    record {
-      leaf = not-false (isLeaf (h .tree) j) leaf;
-      some = leb-true 1 n (and-left (leb 1 n) _ inside);
-      short = leb-true n longest (and-right (leb 1 n) _ inside);
-      space = leb-false room (length (queue (h .calls) j)) full;
-      bytes = ltb-false end (accepted (h .calls) + weigh n) bytes;
-    }
 
 lawful-with : (h : History) (c : Call) → Lawful h → Allowed (h .tree) (h .calls) c → Lawful (withCall h c)
 unfolding LawfulCalls
 lawful-with h c law allowed = record { grown = law .grown; stamp = law .stamp; lawful = (allowed, law .lawful) }
 
 pub arrives-lawful : (h : History) → Lawful h → (stamp j n : ℕ) (a : Arrival) (x : History) → Arrives h stamp j n a x → Lawful x
+unfolding clock
 arrives-lawful h law stamp j n (Arrival.Refused why) x d = subst Lawful (sym (d .after)) law
 arrives-lawful h law stamp j n (Accepted k) x d =
-    let (far, r1) = checks-hold _ _ (d .checked) in
-    let (last, r2) = checks-hold _ _ r1 in
-    let (leaf, r3) = checks-hold _ _ r2 in
-    let (long, r4) = checks-hold _ _ r3 in
-    let (full, r5) = checks-hold _ _ r4 in
-    let (bytes, r6) = checks-hold _ _ r5 in
     subst Lawful (sym (d .after))
-    (lawful-with h (came (nextClock h stamp) j n) law
-    (timely h stamp far last, admitted h j n leaf long full bytes))
+    (lawful-with h (came (nextClock h stamp) j n) law (record { elapsed = ticks h stamp; isTick = refl; checked = d .checked; finds = tt }))
 
 pub departs-lawful : (h : History) → Lawful h → (stamp : ℕ) (a : Departure) (x : History) → Departs h stamp a x → Lawful x
+unfolding clock
 departs-lawful h law stamp (Departure.Refused why) x d = subst Lawful (sym (d .after)) law
 departs-lawful h law stamp NoneWaits x d =
-    let (far, r1) = checks-hold _ _ (d .checked) in
-    let (last, r2) = checks-hold _ _ r1 in
-    subst Lawful (sym (d .after)) (lawful-with h (idle (nextClock h stamp)) law (timely h stamp far last, d .nothing))
+    subst Lawful (sym (d .after))
+    (lawful-with h (idle (nextClock h stamp)) law (record { elapsed = ticks h stamp; isTick = refl; checked = d .checked; finds = d .nothing }))
 departs-lawful h law stamp (Leaves p) x d =
-    let (far, r1) = checks-hold _ _ (d .checked) in
-    let (last, r2) = checks-hold _ _ r1 in
-    subst Lawful (sym (d .after)) (lawful-with h (left (nextClock h stamp) (p .class) (p .rule)) law (timely h stamp far last, d .chosen))
+    subst Lawful (sym (d .after))
+    (lawful-with h (left (nextClock h stamp) (p .class) (p .rule)) law (left-allowed (ticks h stamp) refl (d .checked) (d .chosen)))
 
 -- "the last kept stamp" is that of the last call that was kept
 
-pub stamp-kept : (h : History) (stamp : ℕ) (c : Call) → stamp < wheel → clock (c ∷ h .calls) ≡ nextClock h stamp → lastStamp (h .first) (c ∷ h .calls) ≡ stamp
+pub stamp-kept : StampKept
 unfolding lastStamp elapsedTicks
 stamp-kept h stamp c small e = rw e (omega arith)
 
-pub first-kept : (first : ℕ) → first < wheel → lastStamp first [] ≡ first
+pub first-kept : FirstKept
 unfolding lastStamp clock
 first-kept first small = omega arith
 
@@ -244,12 +209,12 @@ starts-lawful tree stamp v h small s = subst Lawful (sym (s .history)) (started-
 
 -- a start has one answer and one history after it, and always has them
 
-pub starts-one : (tree : Tree) (stamp : ℕ) (v w : Verdict) (h k : History) → Starts tree stamp v h → Starts tree stamp w k → (v ≡ w) × (h ≡ k)
+pub starts-one : StartsOne
 starts-one tree stamp v w h k s t =
     let same = check-one tree v w (s .judged) (t .judged) in
     (same, s .history ∙ ap (started tree stamp) same ∙ sym (t .history))
 
-pub starts-some : (tree : Tree) (stamp : ℕ) → (v : Verdict) × (h : History) × Starts tree stamp v h
+pub starts-some : StartsSome
 starts-some tree stamp = let (v, judged) = check-some tree in (v, started tree stamp v, record { judged = judged; history = refl })
 
 -- "a state of no classes .., where arrivals that pass 14 and 15 get 11 and departures that pass them find none waiting"
@@ -257,13 +222,11 @@ starts-some tree stamp = let (v, judged) = check-some tree in (v, started tree s
 no-leaf : (tree : Tree) → tree .count ≡ 0 → (j : ℕ) → isLeaf tree j ≡ false
 no-leaf tree e j = is-false (isLeaf tree j) (λ leaf. absurd (omega (arith, leaf-class tree j leaf)))
 
-pub no-classes-arrive : (h : History) (stamp j n : ℕ) → h .tree .count ≡ 0 → leb tooFar (ticks h stamp) ≡ false → ltb end (nextClock h stamp) ≡ false
-    → Arrives h stamp j n (Arrival.Refused NoSuchLeaf) h
+pub no-classes-arrive : NoClassesArrive
 unfolding outcome
 no-classes-arrive h stamp j n empty near last = record { checked = simp (near, last, no-leaf (h .tree) empty j); after = refl }
 
-pub no-classes-depart : (h : History) → Lawful h → (stamp : ℕ) → h .tree .count ≡ 0 → leb tooFar (ticks h stamp) ≡ false → ltb end (nextClock h stamp) ≡ false
-    → Departs h stamp NoneWaits (withCall h (idle (nextClock h stamp)))
+pub no-classes-depart : NoClassesDepart
 unfolding outcome
 no-classes-depart h law stamp empty near last =
     record {
@@ -274,21 +237,20 @@ no-classes-depart h law stamp empty near last =
 
 -- Lawful histories are no more than what calls make: a call that the rules allow is what some stamp brings about.
 
-stampAt : History → ℕ → ℕ
-stampAt h at = (h .first + at) % wheel
+module _ (h : History) (c : Call) (a : Allowed (h .tree) (h .calls) c) where
+  stampOf : ℕ
+  stampOf = (h .first + clock (c ∷ h .calls)) % wheel
 
-stamp-ticks : (h : History) (at : ℕ) → Timely (h .calls) at → ticks h (stampAt h at) ≡ at - clock (h .calls)
-unfolding stampAt lastStamp elapsedTicks
-stamp-ticks h at timely = omega (arith, timely .forward, timely .near)
+  stamp-narrow : stampOf < wheel
+  unfolding stampOf
+  stamp-narrow = omega arith
 
-stamp-near : (h : History) (at : ℕ) → Timely (h .calls) at → leb tooFar (ticks h (stampAt h at)) ≡ false
-stamp-near h at timely = lt-leb tooFar (ticks h (stampAt h at)) (omega (arith, stamp-ticks h at timely, timely .near, timely .forward))
+  stamp-ticks : a .elapsed ≡ ticks h stampOf
+  unfolding stampOf lastStamp elapsedTicks
+  stamp-ticks = omega (arith, a .isTick, allowed-elapsed c a .0)
 
-stamp-clock : (h : History) (at : ℕ) → Timely (h .calls) at → nextClock h (stampAt h at) ≡ at
-stamp-clock h at timely = omega (arith, stamp-ticks h at timely, timely .forward)
-
-stamp-last : (h : History) (at : ℕ) → Timely (h .calls) at → ltb end (nextClock h (stampAt h at)) ≡ false
-stamp-last h at timely = le-ltb end (nextClock h (stampAt h at)) (omega (arith, stamp-clock h at timely, timely .inTime))
+  stamp-clock : clock (c ∷ h .calls) ≡ nextClock h stampOf
+  stamp-clock = a .isTick ∙ ap (λ (e : ℕ). clock (h .calls) + e) stamp-ticks
 
 -- some call of the scheduler answers and leaves the history longer by c
 abbrev pub Called : History → Call → Type 0
@@ -297,46 +259,34 @@ Called h (left at j r) = (stamp : ℕ) × (stamp < wheel) × (p : Packet) × Dep
 Called h (idle at) = (stamp : ℕ) × (stamp < wheel) × Departs h stamp NoneWaits (withCall h (idle at))
 
 pub lawful-called : (h : History) → Lawful h → (c : Call) → Allowed (h .tree) (h .calls) c → Called h c
-unfolding outcome
-lawful-called h law (came at j n) (timely, a) =
-    let s = stampAt h at in (
-      s,
-      unfold stampAt in (omega arith),
-      record {
-        checked =
-            simp (
-              stamp-near h at timely,
-              stamp-last h at timely,
-              a .leaf,
-              le-leb 1 n (a .some),
-              le-leb n longest (a .short),
-              lt-leb room (length (queue (h .calls) j)) (a .space),
-              le-ltb end (accepted (h .calls) + weigh n) (a .bytes),
-            );
-        numbered = refl;
-        after = ap (λ (t : ℕ). withCall h (came t j n)) (sym (stamp-clock h at timely));
-      },
-    )
-lawful-called h law (left at j r) (timely, c) =
-    let s = stampAt h at in
-    let (t, times) = times-some h law j (choice-leaf (h .tree) (law .grown) (h .calls) at j r c) in (
-      s,
-      unfold stampAt in (omega arith),
+unfolding clock
+lawful-called h law (came at j n) a = (
+  stampOf h (came at j n) a,
+  stamp-narrow h (came at j n) a,
+  record {
+    checked = subst (λ (e : ℕ). outcome (arrivalChecks (h .tree) (h .calls) e j n) ≡ passed) (stamp-ticks h (came at j n) a) (a .checked);
+    numbered = refl;
+    after = ap (λ (t : ℕ). withCall h (came t j n)) (stamp-clock h (came at j n) a);
+  },
+)
+lawful-called h law (left at j r) a =
+    let (t, times) = times-some h law j (choice-leaf (h .tree) (law .grown) (h .calls) at j r (a .finds)) in (
+      stampOf h (left at j r) a,
+      stamp-narrow h (left at j r) a,
       record { class = j; number = headNumber (h .calls) j; length = headLength (h .calls) j; rule = r; times = t },
       record {
-        checked = simp (stamp-near h at timely, stamp-last h at timely);
-        chosen = subst (λ (x : ℕ). Choice (h .tree) (h .calls) x j r) (sym (stamp-clock h at timely)) c;
+        checked = subst (λ (e : ℕ). outcome (departureChecks (h .calls) e) ≡ passed) (stamp-ticks h (left at j r) a) (a .checked);
+        chosen = subst (λ (x : ℕ). Choice (h .tree) (h .calls) x j r) (stamp-clock h (left at j r) a) (a .finds);
         head = record { number = refl; length = refl; times = times };
-        after = ap (λ (x : ℕ). withCall h (left x j r)) (sym (stamp-clock h at timely));
+        after = ap (λ (x : ℕ). withCall h (left x j r)) (stamp-clock h (left at j r) a);
       },
     )
-lawful-called h law (idle at) (timely, none) =
-    let s = stampAt h at in (
-      s,
-      unfold stampAt in (omega arith),
-      record {
-        checked = simp (stamp-near h at timely, stamp-last h at timely);
-        nothing = none;
-        after = ap (λ (x : ℕ). withCall h (idle x)) (sym (stamp-clock h at timely));
-      },
-    )
+lawful-called h law (idle at) a = (
+  stampOf h (idle at) a,
+  stamp-narrow h (idle at) a,
+  record {
+    checked = subst (λ (e : ℕ). outcome (departureChecks (h .calls) e) ≡ passed) (stamp-ticks h (idle at) a) (a .checked);
+    nothing = a .finds;
+    after = ap (λ (x : ℕ). withCall h (idle x)) (stamp-clock h (idle at) a);
+  },
+)

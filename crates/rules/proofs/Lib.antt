@@ -5,9 +5,11 @@ pub mod Tests
 pub mod Over
 pub mod Trees
 pub mod Queues
+pub mod Allowed
 pub mod Active
 pub mod Choice
 pub mod Answers
+pub mod Made
 pub mod Virtual
 pub mod Sent
 pub mod Leaves

@@ -13,9 +13,11 @@ use Rattle.tree.specs.Trees.{isLeaf}
 use Rattle.rules.specs.declared.Rule.{Rule}
 use Rattle.rules.specs.Limits.{longest, room}
 use Rattle.rules.specs.Calls.{Call, came, left, idle}
-use Rattle.rules.specs.Queues.{queue, headOf, tailOf, isNonempty, waits, headLength}
+use Rattle.rules.specs.Queues.{queue, headOf, tailOf, isNonempty, waits}
 use Rattle.rules.specs.Lawful.{LawfulCalls}
+use Rattle.rules.specs.Sentences.{QueueRoom, HeadLength}
 use Rattle.rules.proofs.Tests.{never, cond-yes, cond-no, equal-or-not}
+use Rattle.rules.proofs.Allowed.{allowed-admitted}
 
 -- a queue after each call
 
@@ -73,7 +75,7 @@ pub waits-leaf : (tree : Tree) (cs : List Call) → LawfulCalls tree cs → (j :
 unfolding LawfulCalls queue
 waits-leaf tree [] law j e = never e refl
 waits-leaf tree (came at k n ∷ cs) law j e =
-    ⊎-elim (λ (q : k ≡ j). subst (λ (x : ℕ). isLeaf tree x ≡ true) q (law .0 .1 .leaf))
+    ⊎-elim (λ (q : k ≡ j). subst (λ (x : ℕ). isLeaf tree x ≡ true) q (allowed-admitted (law .0) .leaf))
     (λ (q : k ≡ j → ⊥). waits-leaf tree cs (law .1) j (sym (ap isNonempty (queue-came-other at k n cs j q)) ∙ e)) (equal-or-not k j)
 waits-leaf tree (left at k r ∷ cs) law j e = waits-leaf tree cs (law .1) j (waits-left-before at k r cs j e)
 waits-leaf tree (idle at ∷ cs) law j e = waits-leaf tree cs (law .1) j e
@@ -84,14 +86,14 @@ tail-shorter : (ns : List ℕ) → length (tailOf ns) ≤ length ns
 tail-shorter [] = omega arith
 tail-shorter (n ∷ ns) = omega arith
 
-pub queue-room : (tree : Tree) (cs : List Call) → LawfulCalls tree cs → (j : ℕ) → length (queue cs j) ≤ room
+pub queue-room : QueueRoom
 unfolding LawfulCalls
 queue-room tree [] law j = rw queue-none (omega arith)
 queue-room tree (came at k n ∷ cs) law j =
     ⊎-elim
     (λ (q : k ≡ j).
     subst (λ (x : ℕ). length (queue (came at k n ∷ cs) x) ≤ room) q
-    (rw (queue-came at k n cs, length-append) (omega (arith, law .0 .1 .space))))
+    (rw (queue-came at k n cs, length-append) (omega (arith, allowed-admitted (law .0) .space))))
     (λ (q : k ≡ j → ⊥). rw (queue-came-other at k n cs j q) (queue-room tree cs (law .1) j)) (equal-or-not k j)
 queue-room tree (left at k r ∷ cs) law j =
     ⊎-elim
@@ -122,7 +124,7 @@ queue-lengths tree (came at k n ∷ cs) law j =
     ⊎-elim
     (λ (q : k ≡ j).
     subst (λ (x : ℕ). Lengths (queue (came at k n ∷ cs) x)) q
-    (rw (queue-came at k n cs) (lengths-last (queue cs k) n (queue-lengths tree cs (law .1) k) (law .0 .1 .some, law .0 .1 .short))))
+    (rw (queue-came at k n cs) (lengths-last (queue cs k) n (queue-lengths tree cs (law .1) k) (allowed-admitted (law .0) .some, allowed-admitted (law .0) .short))))
     (λ (q : k ≡ j → ⊥). rw (queue-came-other at k n cs j q) (queue-lengths tree cs (law .1) j)) (equal-or-not k j)
 queue-lengths tree (left at k r ∷ cs) law j =
     ⊎-elim
@@ -136,5 +138,5 @@ lengths-head : (ns : List ℕ) → Lengths ns → isNonempty ns ≡ true → (1 
 lengths-head [] h e = never e refl
 lengths-head (n ∷ ns) h e = h .0
 
-pub head-length : (tree : Tree) (cs : List Call) → LawfulCalls tree cs → (j : ℕ) → waits cs j ≡ true → (1 ≤ headLength cs j) × (headLength cs j ≤ longest)
+pub head-length : HeadLength
 head-length tree cs law j e = lengths-head (queue cs j) (queue-lengths tree cs law j) e

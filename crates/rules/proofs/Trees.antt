@@ -11,8 +11,8 @@ use Rattle.curve.specs.Curves.{Rising}
 use Rattle.curve.specs.declared.Curve.{Curve}
 use Rattle.curve.specs.declared.Curve.the-variants.{None}
 use Rattle.tree.specs.declared.Tree.{Tree}
-use Rattle.tree.specs.Trees.{parentOf, shareOf, curveOf, isChild, isLeaf}
-use Rattle.tree.specs.Rules.{RightTree}
+use Rattle.tree.specs.Trees.{emptyTree, parentOf, shareOf, curveOf, isChild, isLeaf}
+use Rattle.tree.specs.Rules.{RightShape, RightTree}
 use Rattle.tree.proofs.Children.{child-of, is-child, no-child, has-child, leaf-no-child}
 use Rattle.tree.proofs.Right
 use Rattle.rules.specs.Classes.{isMet, isWithin}
@@ -44,27 +44,35 @@ has-curve S e q = never e (ap hasCurve q)
 
 -- what the rules of a tree say of a class, where there is one
 
+-- the tree that "a refused start gives" has no classes
+pub none-count : {tree : Tree} → tree ≡ emptyTree → tree .count ≡ 0
+unfolding emptyTree
+none-count e = ap (λ (t : Tree). t .count) e
+
 module _ (tree : Tree) (grown : Grown tree) where
   pub right-tree : (j : ℕ) → j < tree .count → RightTree tree
-  right-tree j below = elim grown [ right r ↦ r | none e ↦ absurd (omega (arith, e)) ]
+  right-tree j below = elim grown [ right r ↦ r | none e ↦ absurd (omega (arith, none-count e)) ]
+
+  right-shape : (j : ℕ) → j < tree .count → RightShape tree
+  right-shape j below = right-tree j below .shape
 
   pub parent-lower : (j : ℕ) → 0 < j → j < tree .count → parentOf tree j < j
-  parent-lower j some below = Right.parent-lower tree (right-tree j below) j some below
+  parent-lower j some below = Right.parent-lower tree (right-shape j below) j some below
 
   pub root-parent : 0 < tree .count → parentOf tree 0 ≡ 0
-  root-parent below = Right.root tree (right-tree 0 below) .parent
+  root-parent below = Right.root tree (right-shape 0 below) .parent
 
   pub share-some : (j : ℕ) → j < tree .count → 1 ≤ shareOf tree j
-  share-some j below = Right.share-within tree (right-tree j below) j below .above
+  share-some j below = Right.share-within tree (right-shape j below) j below .above
 
   pub curve-rising : (j : ℕ) → j < tree .count → hasCurve (curveOf tree j) ≡ true → Rising (curveOf tree j)
-  curve-rising j below e = Right.curve-rising tree (right-tree j below) j below (has-curve (curveOf tree j) e)
+  curve-rising j below e = Right.curve-rising tree (right-shape j below) j below (has-curve (curveOf tree j) e)
 
   pub root-interior : isLeaf tree 0 ≡ false
   root-interior =
       is-false (isLeaf tree 0)
       (λ leaf.
-      let (k, child) = has-child tree 0 (Right.root-has-child tree (right-tree 0 (leaf-class tree 0 leaf))) in
+      let (k, child) = has-child tree 0 (Right.root-has-child tree (right-shape 0 (leaf-class tree 0 leaf))) in
       leaf-no-child tree 0 leaf k child)
 
   -- the way upward

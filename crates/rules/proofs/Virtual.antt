@@ -5,7 +5,8 @@ use native.Mathlib.Omega.{arith}
 use native.Mathlib.Nat.{lt-mul-div-succ, div-lt-iff-lt-mul, mul-le-mul-left, mul-le-mul-right, le-trans}
 use mathlib.Core.List.{List, [], _∷_}
 use Rattle.curve.specs.Curves.{inParts}
-use Rattle.curve.specs.Pieces.{EveryPiece, latest, VirtualTime, Orderly}
+use Rattle.curve.specs.Pieces.{EveryPiece, latest, VirtualTime}
+use Rattle.curve.specs.Keeping.{Orderly}
 use Rattle.curve.specs.declared.Curve.the-variants.{Straight}
 use Rattle.curve.specs.declared.Piece.{Piece}
 use Rattle.curve.proofs.Laws.Pieces.{standing-straight}

@@ -2,17 +2,15 @@
 -- Assumes nothing.
 use Prim.Native.Nat.{ℕ, _+_}
 use mathlib.Core.Path.{_≡_}
-use mathlib.Core.Bool.{Bool, true, false, cond, not, _&&_}
+use mathlib.Core.Bool.{true, false}
 use mathlib.Core.List.{List, [], _∷_}
-use lib.ListN.{length}
-use lib.Dec.{leb, ltb}
 use Rattle.tree.specs.declared.Tree.{Tree}
 use Rattle.tree.specs.declared.Refusal.{Refusal}
 use Rattle.tree.specs.Numbers.{numberOf}
 use Rattle.tree.specs.declared.Verdict.{Verdict}
 use Rattle.tree.specs.declared.Verdict.the-variants.{Right}
 use Rattle.tree.specs.Rules.{Judged}
-use Rattle.tree.specs.Trees.{emptyTree, curveOf, isLeaf}
+use Rattle.tree.specs.Trees.{emptyTree, curveOf}
 use Rattle.rules.specs.declared.Times.{Times}
 use Rattle.rules.specs.declared.Times.the-variants.{Untimed, Timed}
 use Rattle.rules.specs.declared.Packet.{Packet}
@@ -20,26 +18,13 @@ use Rattle.rules.specs.declared.Arrival.{Arrival}
 use Rattle.rules.specs.declared.Arrival.the-variants.{Accepted}
 use Rattle.rules.specs.declared.Departure.{Departure}
 use Rattle.rules.specs.declared.Departure.the-variants.{Leaves, NoneWaits}
-use Rattle.rules.specs.Limits.{longest, room, end, tooFar, weigh}
 use Rattle.rules.specs.Calls.{Call, came, left, idle, History}
 use Rattle.rules.specs.Clock.{clock, lastStamp, elapsedTicks}
-use Rattle.rules.specs.Queues.{queue, headLength, nextNumber, headNumber, accepted}
+use Rattle.rules.specs.Queues.{headLength, nextNumber, headNumber}
 use Rattle.rules.specs.Leaves.{DeadlineOf, EligibleOf}
 use Rattle.rules.specs.Choice.{hasCurve, Choice, NothingWaits}
-
--- a row of the table of refusals: its number, and whether the call is refused for it
-pub record Check : Type 0 where
-  pub number : ℕ
-  pub fails : Bool
-
-pub data Outcome : Type 0 where
-  passed : Outcome
-  refused : (number : ℕ) → Outcome
-
--- checks are made in their order: the first that fails gives the number of the refusal
-unfoldable pub outcome : List Check → Outcome
-outcome [] = passed
-outcome (c ∷ cs) = cond (c .fails) (refused (c .number)) (outcome cs)
+pub use Rattle.rules.specs.Checks.{Check, Outcome, passed, refused, departureChecks, leafChecks, arrivalChecks}
+unfoldable pub use Rattle.rules.specs.Checks.{outcome}
 
 -- the elapsed ticks of a call with this stamp, and the clock after it
 abbrev pub ticks : History → ℕ → ℕ
@@ -47,30 +32,6 @@ ticks h stamp = elapsedTicks stamp (lastStamp (h .first) (h .calls))
 
 abbrev pub nextClock : History → ℕ → ℕ
 nextClock h stamp = clock (h .calls) + ticks h stamp
-
--- "a departure 14, 15"
---   14: "elapsed ticks are 2^31 or more"
---   15: "clock would pass 2^40"
-abbrev pub departureChecks : History → ℕ → List Check
-departureChecks h stamp =
-    record { number = 14; fails = leb tooFar (ticks h stamp) }
-    ∷ record { number = 15; fails = ltb end (nextClock h stamp) }
-    ∷ []
-
--- "An arrival checks 14, 15, 11, 12, 13, 16"
---   11: "class number absent, or not a leaf"
---   12: "packet length outside 1 to 9,000"
---   13: "64 already wait in that leaf"
---   16: "accepted bytes would pass 2^40"
-abbrev pub arrivalChecks : History → ℕ → ℕ → ℕ → List Check
-arrivalChecks h stamp j n =
-    record { number = 14; fails = leb tooFar (ticks h stamp) }
-    ∷ record { number = 15; fails = ltb end (nextClock h stamp) }
-    ∷ record { number = 11; fails = not (isLeaf (h .tree) j) }
-    ∷ record { number = 12; fails = not (leb 1 n && leb n longest) }
-    ∷ record { number = 13; fails = leb room (length (queue (h .calls) j)) }
-    ∷ record { number = 16; fails = ltb end (accepted (h .calls) + weigh n) }
-    ∷ []
 
 -- the history with one call more
 abbrev pub withCall : History → Call → History
@@ -83,14 +44,14 @@ pub record IsRefused (checks : List Check) (why : Refusal) (h next : History) : 
 
 -- "An accepted arrival answers the packet's number within its leaf."
 pub record IsAccepted (h : History) (stamp j n number : ℕ) (next : History) : Type 0 where
-  pub checked : outcome (arrivalChecks h stamp j n) ≡ passed
+  pub checked : outcome (arrivalChecks (h .tree) (h .calls) (ticks h stamp) j n) ≡ passed
   pub numbered : number ≡ nextNumber (h .calls) j
   pub after : next ≡ withCall h (came (nextClock h stamp) j n)
 
 -- an arrival's answer, and the history after it
 abbrev pub Arrives : History → (stamp j n : ℕ) → Arrival → History → Type 0
 Arrives h stamp j n (Accepted number) next = IsAccepted h stamp j n number next
-Arrives h stamp j n (Arrival.Refused why) next = IsRefused (arrivalChecks h stamp j n) why h next
+Arrives h stamp j n (Arrival.Refused why) next = IsRefused (arrivalChecks (h .tree) (h .calls) (ticks h stamp) j n) why h next
 
 -- "for a leaf with a real-time curve eligible time and deadline", as they stood before the packet left
 pub record IsTimed (tree : Tree) (cs : List Call) (j eligible deadline : ℕ) : Type 0 where
@@ -110,14 +71,14 @@ pub record IsHead (tree : Tree) (cs : List Call) (p : Packet) : Type 0 where
 
 -- a packet leaves: the one that the rules choose
 pub record IsSent (h : History) (stamp : ℕ) (p : Packet) (next : History) : Type 0 where
-  pub checked : outcome (departureChecks h stamp) ≡ passed
+  pub checked : outcome (departureChecks (h .calls) (ticks h stamp)) ≡ passed
   pub chosen : Choice (h .tree) (h .calls) (nextClock h stamp) (p .class) (p .rule)
   pub head : IsHead (h .tree) (h .calls) p
   pub after : next ≡ withCall h (left (nextClock h stamp) (p .class) (p .rule))
 
 -- "'None waits' moves the clock and nothing else."
 pub record FindsNone (h : History) (stamp : ℕ) (next : History) : Type 0 where
-  pub checked : outcome (departureChecks h stamp) ≡ passed
+  pub checked : outcome (departureChecks (h .calls) (ticks h stamp)) ≡ passed
   pub nothing : NothingWaits (h .calls)
   pub after : next ≡ withCall h (idle (nextClock h stamp))
 
@@ -125,10 +86,10 @@ pub record FindsNone (h : History) (stamp : ℕ) (next : History) : Type 0 where
 abbrev pub Departs : History → (stamp : ℕ) → Departure → History → Type 0
 Departs h stamp (Leaves p) next = IsSent h stamp p next
 Departs h stamp NoneWaits next = FindsNone h stamp next
-Departs h stamp (Departure.Refused why) next = IsRefused (departureChecks h stamp) why h next
+Departs h stamp (Departure.Refused why) next = IsRefused (departureChecks (h .calls) (ticks h stamp)) why h next
 
 -- "Start takes a first stamp, which is time 0." "A refused start gives a state of no classes at time 0 with the first stamp kept":
--- there no class is a leaf, so that arrivals that pass 14 and 15 get 11, and nothing waits.
+-- there no class is a leaf, so that arrivals that pass 14 and 15 get 11, and nothing waits (`NoClassesArrive` and `NoClassesDepart` of specs/Sentences).
 abbrev pub started : Tree → ℕ → Verdict → History
 started tree stamp Right = record { tree = tree; first = stamp; calls = [] }
 started tree stamp (Verdict.Refused why class) = record { tree = emptyTree; first = stamp; calls = [] }

@@ -21,15 +21,20 @@ isMet tree (suc n) i j = eqb j i || isMet tree n i (parentOf tree j)
 abbrev pub isWithin : Tree → ℕ → ℕ → Bool
 isWithin tree i j = isMet tree j i j
 
+-- the bytes sent from a class and all below it, by either rule, where a packet of length n counts for `weight n`
+unfoldable pub sentIn : (weight : ℕ → ℕ) → Tree → List Call → ℕ → ℕ
+sentIn weight tree [] i = 0
+sentIn weight tree (came at k n ∷ cs) i = sentIn weight tree cs i
+sentIn weight tree (left at k r ∷ cs) i =
+    cond (isWithin tree i k) (sentIn weight tree cs i + weight (headLength cs k)) (sentIn weight tree cs i)
+sentIn weight tree (idle at ∷ cs) i = sentIn weight tree cs i
+
 -- w, "the bytes sent from a class and all below it, by either rule"
-unfoldable pub sent : Tree → List Call → ℕ → ℕ
-sent tree [] i = 0
-sent tree (came at k n ∷ cs) i = sent tree cs i
-sent tree (left at k r ∷ cs) i = cond (isWithin tree i k) (sent tree cs i + weigh (headLength cs k)) (sent tree cs i)
-sent tree (idle at ∷ cs) i = sent tree cs i
+abbrev pub sent : Tree → List Call → ℕ → ℕ
+sent tree cs i = sentIn weigh tree cs i
 
 -- "A leaf is active while a packet waits in it, an interior class while a child is active": a packet waits in the class or below it.
--- (The theorems `leaf-active` and `interior-active` of proofs/Active say it in the paper's words.)
+-- (`LeafActive` and `InteriorActive` of specs/Sentences say it in the paper's words.)
 unfoldable pub active : Tree → List Call → ℕ → Bool
 active tree cs i = anyOf (tree .count) (λ j. isWithin tree i j && waits cs j)
 

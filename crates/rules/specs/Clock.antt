@@ -12,7 +12,7 @@ clock (came at j n ∷ cs) = at
 clock (left at j r ∷ cs) = at
 clock (idle at ∷ cs) = at
 
--- "the last kept stamp": that of the last call that was not refused, or the first (theorems `stamp-kept` and `first-kept` of proofs/Answers)
+-- "the last kept stamp": that of the last call that was not refused, or the first (`StampKept` and `FirstKept` of specs/Sentences)
 unfoldable pub lastStamp : ℕ → List Call → ℕ
 lastStamp first cs = (first + clock cs) % wheel
 

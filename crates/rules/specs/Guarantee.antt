@@ -7,7 +7,8 @@ use mathlib.Core.List.{List, _∷_}
 use Rattle.curve.specs.Curves.{Rising}
 use Rattle.curve.specs.Fit.{CurvesFit}
 use Rattle.tree.specs.declared.Tree.{Tree}
-use Rattle.tree.specs.Trees.{curveOf, curvesOf}
+use Rattle.tree.specs.Trees.{mostClasses, curveOf, curvesOf}
+use Rattle.tree.specs.Rules.{RightTree}
 use Rattle.rules.specs.declared.Rule.{Rule}
 use Rattle.rules.specs.Limits.{weigh}
 use Rattle.rules.specs.Calls.{Call, left, History}
@@ -55,11 +56,15 @@ TimeLeft late tree cs =
     → (j number n deadline : ℕ) → Head tree past j number n deadline
     → clock past + weigh n ≤ deadline + late
 
--- "started from a tree whose curves fit": what the guarantee needs of a tree. A start keeps no other.
+-- "started from a tree whose curves fit": what the guarantee needs of a tree. A start keeps no other (`RightSound`).
 pub record Sound (tree : Tree) : Type 0 where
-  pub few : tree .count ≤ 64
+  pub few : tree .count ≤ mostClasses
   pub rising : (j : ℕ) → j < tree .count → hasCurve (curveOf tree j) ≡ true → Rising (curveOf tree j)
   pub fit : CurvesFit (curvesOf tree)
+
+-- a start keeps no other: the theorem `right-sound`
+abbrev pub RightSound : Type 0
+RightSound = (tree : Tree) → RightTree tree → Sound tree
 
 -- The guarantee, over the calls of a history: whatever the other classes send
 pub record Guaranteed (tree : Tree) (cs : List Call) : Type 0 where

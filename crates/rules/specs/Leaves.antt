@@ -19,12 +19,17 @@ abbrev pub isRealTime : Rule → Bool
 isRealTime RealTime = true
 isRealTime Fair = false
 
+-- the bytes sent from leaf j by the real-time rule, where a packet of length n counts for `weight n`
+unfoldable pub sentRealTimeIn : (weight : ℕ → ℕ) → List Call → ℕ → ℕ
+sentRealTimeIn weight [] j = 0
+sentRealTimeIn weight (came at k n ∷ cs) j = sentRealTimeIn weight cs j
+sentRealTimeIn weight (left at k r ∷ cs) j =
+    cond (isRealTime r && eqb k j) (sentRealTimeIn weight cs j + weight (headLength cs j)) (sentRealTimeIn weight cs j)
+sentRealTimeIn weight (idle at ∷ cs) j = sentRealTimeIn weight cs j
+
 -- c, "the bytes sent from" leaf j "by the real-time rule"
-unfoldable pub sentRealTime : List Call → ℕ → ℕ
-sentRealTime [] j = 0
-sentRealTime (came at k n ∷ cs) j = sentRealTime cs j
-sentRealTime (left at k r ∷ cs) j = cond (isRealTime r && eqb k j) (sentRealTime cs j + weigh (headLength cs j)) (sentRealTime cs j)
-sentRealTime (idle at ∷ cs) j = sentRealTime cs j
+abbrev pub sentRealTime : List Call → ℕ → ℕ
+sentRealTime cs j = sentRealTimeIn weigh cs j
 
 -- "A leaf has a backlog instant whenever a packet is accepted while none waits. For leaf i let the instants so far be b1..bm, and ck the bytes
 -- sent from i by the real-time rule before instant k": the pieces (bk, ck), the newest first

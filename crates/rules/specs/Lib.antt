@@ -8,8 +8,11 @@ pub mod Over
 pub mod Classes
 pub mod Fair
 pub mod Choice
+pub mod Checks
 pub mod Lawful
 pub mod Answers
+pub mod Made
+pub mod Sentences
 pub mod Rows
 pub mod Link
 pub mod Guarantee

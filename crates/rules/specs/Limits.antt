@@ -11,8 +11,11 @@ abbrev pub room : ℕ
 room = 64
 
 -- "clock, and total bytes accepted: each at most 2^40"
-abbrev pub end : ℕ
-end = 2 ^ 40
+abbrev pub lastTick : ℕ
+lastTick = 2 ^ 40
+
+abbrev pub mostBytesAccepted : ℕ
+mostBytesAccepted = 2 ^ 40
 
 -- "a 32-bit counter that comes round to zero"
 abbrev pub wheel : ℕ

@@ -4,6 +4,7 @@ use Prim.Native.Nat.{ℕ, _+_, _≤_, max}
 use mathlib.Core.Path.{_≡_}
 use mathlib.Core.Bool.{true}
 use mathlib.Core.List.{List, [], _∷_}
+use Rattle.rules.specs.declared.Rule.{Rule}
 use Rattle.rules.specs.Limits.{longest, weigh}
 use Rattle.rules.specs.Calls.{Call, came, left, idle}
 use Rattle.rules.specs.Clock.{clock}
@@ -35,6 +36,11 @@ PassesNone r cs c = (tick j : ℕ) → clock cs ≤ tick → free r cs ≤ tick 
 pub record Keeps (r : ℕ) (cs : List Call) (c : Call) : Type 0 where
   pub asked : AskedFree r cs c
   pub passes : PassesNone r cs c
+
+-- "a packet that leaves at" a tick "keeps the link busy until" that tick and its bytes: the theorem `busy-until`
+abbrev pub BusyUntil : Type 0
+BusyUntil =
+    (r at j : ℕ) (rule : Rule) (cs : List Call) → Keeps r cs (left at j rule) → free r (left at j rule ∷ cs) ≡ at + weigh (headLength cs j)
 
 unfoldable pub EveryCallKeeps : ℕ → List Call → Type 0
 EveryCallKeeps r [] = Unit {0}

@@ -41,16 +41,20 @@ nextNumber (came at k n ∷ cs) j = cond (eqb k j) (nextNumber cs j + 1) (nextNu
 nextNumber (left at k r ∷ cs) j = nextNumber cs j
 nextNumber (idle at ∷ cs) j = nextNumber cs j
 
--- and of the head packet of leaf j, which is how many left it before
+-- and of the head packet of leaf j, which is how many left it before (`Numbers` of specs/Sentences: those that wait are numbered from there on)
 unfoldable pub headNumber : List Call → ℕ → ℕ
 headNumber [] j = 0
 headNumber (came at k n ∷ cs) j = headNumber cs j
 headNumber (left at k r ∷ cs) j = cond (eqb k j) (headNumber cs j + 1) (headNumber cs j)
 headNumber (idle at ∷ cs) j = headNumber cs j
 
+-- the bytes accepted, where a packet of length n counts for `weight n`
+unfoldable pub acceptedIn : (weight : ℕ → ℕ) → List Call → ℕ
+acceptedIn weight [] = 0
+acceptedIn weight (came at k n ∷ cs) = acceptedIn weight cs + weight n
+acceptedIn weight (left at k r ∷ cs) = acceptedIn weight cs
+acceptedIn weight (idle at ∷ cs) = acceptedIn weight cs
+
 -- "total bytes accepted"
-unfoldable pub accepted : List Call → ℕ
-accepted [] = 0
-accepted (came at k n ∷ cs) = accepted cs + weigh n
-accepted (left at k r ∷ cs) = accepted cs
-accepted (idle at ∷ cs) = accepted cs
+abbrev pub accepted : List Call → ℕ
+accepted cs = acceptedIn weigh cs

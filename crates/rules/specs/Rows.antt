@@ -2,15 +2,17 @@
 -- Assumes nothing.
 use Prim.Native.Nat.{ℕ}
 use mathlib.Core.Path.{_≡_}
-use mathlib.Core.Bool.{Bool, true, false}
 use mathlib.Core.List.{List, [], _∷_}
 use lib.ListN.{replicate}
-use Rattle.curve.specs.Answers.{Exactly}
 use Rattle.curve.specs.Fit.{CurvesFit}
 use Rattle.curve.specs.declared.Curve.{Curve}
 use Rattle.curve.specs.declared.Curve.the-variants.{None, Straight, FrontLoaded, Delayed}
 use Rattle.tree.specs.declared.Tree.{Tree}
 use Rattle.tree.specs.Trees.{noClass}
+use Rattle.tree.specs.declared.Refusal.{Refusal}
+use Rattle.tree.specs.declared.Verdict.the-variants.{Right, Refused}
+use Rattle.tree.specs.Numbers.{numberOf}
+use Rattle.tree.specs.Rules.{Judged}
 use Rattle.rules.specs.declared.Rule.{Rule}
 use Rattle.rules.specs.declared.Rule.the-variants.{RealTime, Fair}
 use Rattle.rules.specs.Calls.{Call, came, left}
@@ -19,17 +21,21 @@ use Rattle.rules.specs.Fair.{virtualTimeOf}
 use Rattle.rules.specs.Choice.{Choice}
 use Rattle.rules.specs.Lawful.{Lawful}
 
--- "Tree A: leaf 1, share 16,384, front-loaded 32,768 / 2,000 / 16,384; leaf 2, share 49,152, delayed 2,000 / 32,768."
-abbrev pub treeA : Tree
-treeA =
+-- a tree of two leaves, with their shares and curves
+abbrev pub twoLeaves : ℕ → Curve → ℕ → Curve → Tree
+twoLeaves share₁ S₁ share₂ S₂ =
     record {
       count = 3;
       classes =
           record { parent = 0; share = 65536; curve = None }
-          ∷ record { parent = 0; share = 16384; curve = FrontLoaded 32768 2000 16384 }
-          ∷ record { parent = 0; share = 49152; curve = Delayed 2000 32768 }
+          ∷ record { parent = 0; share = share₁; curve = S₁ }
+          ∷ record { parent = 0; share = share₂; curve = S₂ }
           ∷ replicate 61 noClass;
     }
+
+-- "Tree A: leaf 1, share 16,384, front-loaded 32,768 / 2,000 / 16,384; leaf 2, share 49,152, delayed 2,000 / 32,768."
+abbrev pub treeA : Tree
+treeA = twoLeaves 16384 (FrontLoaded 32768 2000 16384) 49152 (Delayed 2000 32768)
 
 -- What a row's result says of a history of tree A: the eligible time or the deadline of the head packet of a leaf, the virtual time of a class, or the
 -- leaf whose head packet leaves at a tick, and the rule.
@@ -53,15 +59,31 @@ EveryResult cs (r ∷ rs) = ResultHolds cs r × EveryResult cs rs
 abbrev pub Fit : List Curve → Type 0
 Fit Ss = CurvesFit Ss
 
--- A row: a situation of tree A, the calls so far with the newest first, and its results; or curves, and whether they fit ("10" where they don't).
+-- What a row of curves answers: "fit", or the number of a refusal.
+pub data Answer : Type 0 where
+  fit : Answer
+  refusal : (number : ℕ) → Answer
+
+-- a tree of two leaves with these curves is right, or it is refused with that number, which names class 0
+abbrev pub AnswerHolds : Tree → Answer → Type 0
+AnswerHolds tree fit = Judged tree Right
+AnswerHolds tree (refusal number) = (why : Refusal) × (numberOf why ≡ number) × Judged tree (Refused why 0)
+
+-- and the curves fit or not
+abbrev pub FitHolds : List Curve → Answer → Type 0
+FitHolds Ss fit = Fit Ss
+FitHolds Ss (refusal number) = Fit Ss → ⊥
+
+-- A row: a situation of tree A, the calls so far with the newest first, and its results; or the curves of two leaves, and the answer.
 pub data Row : Type 0 where
   situation : List Call → List Result → Row
-  curves : List Curve → Bool → Row
+  curves : (S₁ S₂ : Curve) → Answer → Row
 
--- What a row says: the calls are ones that the rules make and allow, in this order, and each result holds after them.
+-- What a row says: the calls are ones that the rules make and allow, in this order, and each result holds after them; or the curves fit or not, and a
+-- start with them answers so.
 abbrev pub RowHolds : Row → Type 0
 RowHolds (situation cs rs) = Lawful (record { tree = treeA; first = 0; calls = cs }) × EveryResult cs rs
-RowHolds (curves Ss fit) = Exactly fit (Fit Ss)
+RowHolds (curves S₁ S₂ answer) = FitHolds (S₁ ∷ S₂ ∷ []) answer × AnswerHolds (twoLeaves 32768 S₁ 32768 S₂) answer
 
 -- "both wait; departures at 0 and 500: 1 then 2, real-time"
 abbrev pub bothLeft : List Call
@@ -88,13 +110,13 @@ rows =
     -- "both passive at 2,000 and 1,334; leaf 2 then leaf 1 turn active: both at 2,000"
     ∷ situation (came 2000 1 500 ∷ came 2000 2 500 ∷ bothLeft) (virtual 1 2000 ∷ virtual 2 2000 ∷ [])
     -- "straight 32,768 and 32,768: fit"
-    ∷ curves (Straight 32768 ∷ Straight 32768 ∷ []) true
+    ∷ curves (Straight 32768) (Straight 32768) fit
     -- "straight 32,769 and 32,768: 10"
-    ∷ curves (Straight 32769 ∷ Straight 32768 ∷ []) false
+    ∷ curves (Straight 32769) (Straight 32768) (refusal 10)
     -- "front-loaded 65,535 / 1 / 1 with straight 1: fit"
-    ∷ curves (FrontLoaded 65535 1 1 ∷ Straight 1 ∷ []) true
+    ∷ curves (FrontLoaded 65535 1 1) (Straight 1) fit
     -- "front-loaded 65,536 / 1 / 1 with straight 1: 10"
-    ∷ curves (FrontLoaded 65536 1 1 ∷ Straight 1 ∷ []) false
+    ∷ curves (FrontLoaded 65536 1 1) (Straight 1) (refusal 10)
     ∷ []
 
 abbrev pub EveryRow : List Row → Type 0

@@ -3,15 +3,14 @@
 -- Assumes nothing.
 use Prim.Native.Nat.{ℕ, _+_, _≤_}
 use mathlib.Core.List.{List, [], _∷_}
-use lib.ListN.{replicate}
 use Rattle.curve.specs.declared.Curve.the-variants.{None, Straight}
 use Rattle.tree.specs.declared.Tree.{Tree}
-use Rattle.tree.specs.Trees.{noClass}
 use Rattle.rules.specs.declared.Rule.the-variants.{RealTime, Fair}
 use Rattle.rules.specs.Calls.{Call, came, left, idle, History}
 use Rattle.rules.specs.Clock.{clock}
 use Rattle.rules.specs.Lawful.{Lawful}
-use Rattle.rules.specs.Rows.{treeA}
+use Rattle.rules.specs.Made.{Made}
+use Rattle.rules.specs.Rows.{treeA, twoLeaves}
 use Rattle.rules.specs.Link.{heaviest, Link}
 use Rattle.rules.specs.Guarantee.{Moment, Head, LeftBy, NoneLater}
 
@@ -23,7 +22,7 @@ pub record Premises (h : History) (j number n deadline : ℕ) : Type 0 where
   pub past : List Call
   pub moment : Moment past (h .calls)
   pub head : Head (h .tree) past j number n deadline
-  pub reached : deadline + heaviest ≤ clock (h .calls)
+  pub clockReaches : deadline + heaviest ≤ clock (h .calls)
 
 -- Tree A. Four packets come to leaf 1 and three to leaf 2. At 3,500 neither leaf is eligible, and the fair rule takes leaf 2. Later leaf 2 is filled again.
 abbrev pub runA : List Call
@@ -52,15 +51,7 @@ historyA = record { tree = treeA; first = 0; calls = runA }
 
 -- A leaf with no curve sends 9,000 bytes at 0; in the same tick a packet comes to a leaf with the whole link's rate.
 abbrev pub lateTree : Tree
-lateTree =
-    record {
-      count = 3;
-      classes =
-          record { parent = 0; share = 65536; curve = None }
-          ∷ record { parent = 0; share = 32768; curve = None }
-          ∷ record { parent = 0; share = 32768; curve = Straight 65536 }
-          ∷ replicate 61 noClass;
-    }
+lateTree = twoLeaves 32768 None 32768 (Straight 65536)
 
 abbrev pub lateRun : List Call
 lateRun = idle 10500 ∷ left 9000 2 RealTime ∷ came 0 2 1500 ∷ left 0 1 Fair ∷ came 0 1 9000 ∷ []
@@ -74,8 +65,10 @@ pub record Attained (h : History) (j number n deadline : ℕ) : Type 0 where
   pub leaves : LeftBy (h .calls) j number n (deadline + heaviest)
   pub noSooner : (tick : ℕ) → LeftBy (h .calls) j number n tick → deadline + heaviest ≤ tick
 
--- what the two runs show
-pub record Shown : Type 0 where
+-- what the two runs show: a start and calls make them, and they meet the premises
+pub record RunsShow : Type 0 where
+  pub made : Made historyA
+  pub madeLate : Made lateHistory
   pub first : Premises historyA 1 0 500 1000
   pub second : Premises historyA 2 0 1000 4000
   pub last : Premises historyA 2 3 700 8500

@@ -11,7 +11,9 @@ pub const LONGEST: u32 = 9000;
 
 pub const ROOM: u64 = 64;
 
-pub const END: u64 = 1099511627776;
+pub const LAST_TICK: u64 = 1099511627776;
+
+pub const MOST_BYTES: u64 = 1099511627776;
 
 pub const TOO_FAR: u32 = 2147483648;
 

@@ -1,5 +1,18 @@
-// Reads each class-tree file that its arguments name, and prints what it finds.
+// Reads each class-tree file that its arguments name, writes what it finds, and prints how both end.
+mod writing;
+
+use tree::Tree;
 use tree::Verdict;
+
+// What stands at a number that no class can have.
+fn print_beyond(tree: Tree) {
+    let class = tree::class_at(tree, 64);
+    show::text(b"at 64: parent");
+    show::number(class.parent as u64);
+    show::text(b" share");
+    show::number(class.share as u64);
+    show::text(b"\n");
+}
 
 // What the file of that name reads as.
 fn print_file(name: &[u8]) {
@@ -14,9 +27,13 @@ fn print_file(name: &[u8]) {
     let reading = file::reader::read(&bytes[..n]);
     let verdict = reading.verdict;
     match verdict {
-        Verdict::Right => show::classes(reading.tree),
+        Verdict::Right => {
+            show::classes(reading.tree);
+            print_beyond(reading.tree);
+        }
         Verdict::Refused { why, class } => show::refused(why, class),
     }
+    writing::print(reading.tree, &bytes[..n]);
 }
 
 fn print_argument(i: usize) {

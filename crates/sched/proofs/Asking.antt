@@ -19,14 +19,16 @@ use Rattle.rules.specs.Clock.{clock}
 use Rattle.rules.specs.Queues.{queue, isNonempty, waits}
 use Rattle.rules.specs.Classes.{isWithin, sent, turnsActive}
 use Rattle.rules.specs.Fair.{fairPieces, virtualTime, virtualTimeOf}
+use Rattle.rules.proofs.Allowed.{allowed-admitted}
 use Rattle.rules.specs.Lawful.{Grown, right, none, Lawful, LawfulCalls}
 use Rattle.rules.proofs.Tests.{never, is-true, is-false, and-left, and-right, cond-no}
-use Rattle.rules.proofs.Trees.{leaf-class, within-le}
+use Rattle.rules.proofs.Trees.{none-count, leaf-class, within-le}
 use Rattle.rules.proofs.Queues.{waits-leaf}
 use Rattle.rules.proofs.Active.{numbers}
 use Rattle.rules.proofs.Leaves.{eligible-before-deadline, deadline-below}
-use Rattle.state.specs.Table.{at}
-use Rattle.state.specs.Columns.{HEADER, COUNT, CAME, LEFT, ELIGIBLE, DEADLINE, VIRTUAL, NEVER}
+use Rattle.state.specs.Heads.{EveryHistory}
+use Rattle.state.specs.Table.{at, headerAt, CLASSES}
+use Rattle.state.specs.Columns.{COUNT, NEXT-NUMBER, HEAD-NUMBER, ELIGIBLE, DEADLINE, VIRTUAL, NEVER}
 use Rattle.state.specs.State.{Shows, Reached, hasTimes}
 use Rattle.sched.specs.Asked.{HeadTimed, HeadTimes}
 
@@ -44,7 +46,7 @@ module _ (tree : Tree) (grown : Grown tree) where
   unfolding LawfulCalls fairPieces
   absent-pieces [] law i out = refl
   absent-pieces (came t j n ∷ cs) law i out =
-      let below = leaf-class tree j (law .0 .1 .leaf) in
+      let below = leaf-class tree j (allowed-admitted (law .0) .leaf) in
       cond-no _ _
       (is-false (turnsActive tree cs j i)
       (λ e. let w = and-left (isWithin tree i j) _ (and-right (not (eqb i 0)) _ e) in omega (arith, within-le tree grown i j below w)))
@@ -57,13 +59,13 @@ module _ (tree : Tree) (grown : Grown tree) where
   unfolding virtualTime
   absent-virtual cs law i out = ap (λ (ps : List Piece). virtualTime (shareOf tree i) ps (sent tree cs i)) (absent-pieces cs law i out)
 
-grown-narrow : (tree : Tree) → Grown tree → tree .count ≤ 64
-grown-narrow tree (right r) = r .count .below
-grown-narrow tree (none e) = omega (arith, e)
+grown-narrow : (tree : Tree) → Grown tree → tree .count ≤ CLASSES
+grown-narrow tree (right r) = r .shape .count .below
+grown-narrow tree (none e) = omega (arith, none-count e)
 
 module _ {m l : List ℕ} {h : History} (lawful : Lawful h) (shows : Shows m l h) where
   -- of class i, where the header's count is n
-  module _ {n : ℕ} (counted : n ≡ at m COUNT HEADER) (i : ℕ) where
+  module _ {n : ℕ} (counted : n ≡ headerAt m COUNT) (i : ℕ) where
     module _ (out : n ≤ i) where
       beyond : h .tree .count ≤ i
       beyond = omega (arith, shows .header .count, counted, out)
@@ -84,22 +86,22 @@ module _ {m l : List ℕ} {h : History} (lawful : Lawful h) (shows : Shows m l h
       class : i < h .tree .count
       class = omega (arith, shows .header .count, counted, there)
 
-      pub asked-narrow : i < 64
+      pub asked-narrow : i < CLASSES
       asked-narrow = omega (arith, class, grown-narrow (h .tree) (lawful .grown))
 
       pub virtual-shown : at m i VIRTUAL ≡ virtualTimeOf (h .tree) (h .calls) i
       virtual-shown = shows .fairs i class .virtual
 
       -- what came less what left
-      module _ {came left : ℕ} (isCame : came ≡ at m i CAME) (isLeft : left ≡ at m i LEFT) where
+      module _ {came left : ℕ} (isCame : came ≡ at m i NEXT-NUMBER) (isLeft : left ≡ at m i HEAD-NUMBER) where
         told : left + length (queue (h .calls) i) ≡ came
         told =
             omega (
               arith,
               isCame,
               isLeft,
-              shows .leaves i class .came,
-              shows .leaves i class .left,
+              shows .leaves i class .nextNumber,
+              shows .leaves i class .headNumber,
               numbers (h .tree) (lawful .grown) (h .calls) (lawful .lawful) i,
             )
 
@@ -139,8 +141,8 @@ module _ {m l : List ℕ} {h : History} (lawful : Lawful h) (shows : Shows m l h
 -- one answer
 
 -- a number that is the same of every history that the state shows
-pub shown-one : (f : History → ℕ) {m l : List ℕ} → Reached m l → (a b : ℕ) → ((h : History) → Lawful h → Shows m l h → a ≡ f h)
-    → ((h : History) → Lawful h → Shows m l h → b ≡ f h) → a ≡ b
+pub shown-one : (f : History → ℕ) {m l : List ℕ} → Reached m l → (a b : ℕ) → EveryHistory m l (λ h. a ≡ f h)
+    → EveryHistory m l (λ h. b ≡ f h) → a ≡ b
 shown-one f reached a b first second =
     first (reached .history) (reached .lawful) (reached .shows) ∙ sym (second (reached .history) (reached .lawful) (reached .shows))
 
@@ -151,14 +153,14 @@ head-one tree cs j (Timed e d) Untimed p q = never (p .timed) q
 head-one tree cs j (Timed e d) (Timed e′ d′) p q = ap₂ Timed (least-one (p .isEligible) (q .isEligible)) (least-one (p .isDeadline) (q .isDeadline))
 
 pub head-times-one : {m l : List ℕ} → Reached m l → (class : ℕ) (a b : Times)
-    → ((h : History) → Lawful h → Shows m l h → HeadTimes (h .tree) (h .calls) class a)
-    → ((h : History) → Lawful h → Shows m l h → HeadTimes (h .tree) (h .calls) class b) → a ≡ b
+    → EveryHistory m l (λ h. HeadTimes (h .tree) (h .calls) class a)
+    → EveryHistory m l (λ h. HeadTimes (h .tree) (h .calls) class b) → a ≡ b
 head-times-one reached class a b first second =
     head-one (reached .history .tree) (reached .history .calls) class a b (first (reached .history) (reached .lawful) (reached .shows))
     (second (reached .history) (reached .lawful) (reached .shows))
 
-pub clock-one : {m l : List ℕ} → Reached m l → (a b : ℕ) → ((h : History) → Lawful h → Shows m l h → a ≡ clock (h .calls))
-    → ((h : History) → Lawful h → Shows m l h → b ≡ clock (h .calls)) → a ≡ b
+pub clock-one : {m l : List ℕ} → Reached m l → (a b : ℕ) → EveryHistory m l (λ h. a ≡ clock (h .calls))
+    → EveryHistory m l (λ h. b ≡ clock (h .calls)) → a ≡ b
 clock-one = shown-one (λ h. clock (h .calls))
 
 pub waiting-one : {m l : List ℕ} → Reached m l → (class : ℕ) (a b : ℕ) → ((h : History) → Lawful h → Shows m l h → a ≡ length (queue (h .calls) class))
@@ -166,6 +168,6 @@ pub waiting-one : {m l : List ℕ} → Reached m l → (class : ℕ) (a b : ℕ)
 waiting-one reached class = shown-one (λ h. length (queue (h .calls) class)) reached
 
 pub virtual-time-one : {m l : List ℕ} → Reached m l → (class : ℕ) (a b : ℕ)
-    → ((h : History) → Lawful h → Shows m l h → a ≡ virtualTimeOf (h .tree) (h .calls) class)
-    → ((h : History) → Lawful h → Shows m l h → b ≡ virtualTimeOf (h .tree) (h .calls) class) → a ≡ b
+    → EveryHistory m l (λ h. a ≡ virtualTimeOf (h .tree) (h .calls) class)
+    → EveryHistory m l (λ h. b ≡ virtualTimeOf (h .tree) (h .calls) class) → a ≡ b
 virtual-time-one reached class = shown-one (λ h. virtualTimeOf (h .tree) (h .calls) class) reached

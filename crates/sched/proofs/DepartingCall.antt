@@ -11,20 +11,21 @@ use Rattle.rules.specs.declared.Departure.{Departure}
 use Rattle.rules.specs.declared.Departure.the-variants.{Leaves, NoneWaits}
 use Rattle.rules.specs.declared.Packet.{Packet}
 use Rattle.rules.specs.declared.Rule.{Rule}
-use Rattle.rules.specs.Limits.{end, wheel, tooFar}
+use Rattle.rules.specs.Limits.{lastTick, wheel, tooFar}
 use Rattle.rules.specs.Calls.{Call, left, idle, History}
 use Rattle.rules.specs.Clock.{clock}
-use Rattle.rules.specs.Queues.{queue, headNumber, nextNumber, accepted}
-use Rattle.rules.specs.Leaves.{sentRealTime, pieces}
-use Rattle.rules.specs.Classes.{sent, active}
+use Rattle.rules.specs.Queues.{queue, headNumber, nextNumber, acceptedIn, accepted}
+use Rattle.rules.specs.Leaves.{sentRealTimeIn, sentRealTime, pieces}
+use Rattle.rules.specs.Classes.{sentIn, sent, active}
 use Rattle.rules.specs.Fair.{mark, fairPieces}
 use Rattle.rules.specs.Choice.{Choice, NothingWaits}
-use Rattle.rules.specs.Lawful.{Timely, Allowed, Lawful}
+use Rattle.rules.specs.Lawful.{Allowed, Lawful}
+use Rattle.rules.proofs.Allowed.{Timely}
 use Rattle.rules.specs.Answers.{passed, outcome, ticks, nextClock, departureChecks, withCall}
 use Rattle.rules.proofs.Answers.{departs-lawful, stamp-kept}
-use Rattle.state.specs.declared.ticks.Moment.{Moment}
-use Rattle.state.specs.Table.{at, with}
-use Rattle.state.specs.Columns.{HEADER, CLOCK, STAMP}
+use Rattle.state.specs.declared.ticks.NextClock.{NextClock}
+use Rattle.state.specs.Table.{headerAt, withHeader}
+use Rattle.state.specs.Columns.{CLOCK, STAMP}
 use Rattle.state.specs.State.{activity, ShowsFair, Shows, Reached}
 use Rattle.sched.specs.Promises.{DepartRight}
 use Rattle.state.specs.Steps.{tickOf}
@@ -32,14 +33,14 @@ use Rattle.sched.specs.StepsArriving.{ShowsButClock}
 use Rattle.state.specs.StepsChoosing.{Told}
 use Rattle.sched.specs.StepsDeparting.{TakeRight}
 use Rattle.state.proofs.Choosing.{count-most}
-use Rattle.sched.proofs.ArrivingLeaf.{SameLeaf, leaf-cells}
+use Rattle.state.proofs.LeafCalls.{SameLeaf, leaf-cells}
 use Rattle.sched.proofs.Arriving.{tick-refused, tick-kept, checks-after, tick-shown, clock-moved}
 
 -- The checks 14 and 15.
 
-module _ {m l : List ℕ} (h : History) (law : Lawful h) (shows : Shows m l h) (stamp : ℕ) {r : Moment}
-    (ticked : r ≡ tickOf (at m CLOCK HEADER) (at m STAMP HEADER) stamp) where
-  pub refused-right : (why : Refusal) → r ≡ Moment.Refused why → DepartRight h stamp (Departure.Refused why) m l
+module _ {m l : List ℕ} (h : History) (law : Lawful h) (shows : Shows m l h) (stamp : ℕ) {r : NextClock}
+    (ticked : r ≡ tickOf (headerAt m CLOCK) (headerAt m STAMP) stamp) where
+  pub refused-right : (why : Refusal) → r ≡ NextClock.Refused why → DepartRight h stamp (Departure.Refused why) m l
   refused-right why e =
       record {
         next = h;
@@ -47,30 +48,30 @@ module _ {m l : List ℕ} (h : History) (law : Lawful h) (shows : Shows m l h) (
         shows = shows;
       }
 
-  pub tick-passes : (now : ℕ) → r ≡ Moment.At now → (outcome (departureChecks h stamp) ≡ passed) × (now ≡ nextClock h stamp)
+  pub tick-passes : (now : ℕ) → r ≡ NextClock.At now → (outcome (departureChecks (h .calls) (ticks h stamp)) ≡ passed) × (now ≡ nextClock h stamp)
   unfolding outcome
   tick-passes now e =
       let (isNow, (near, late)) = tick-kept h stamp now (sym e ∙ ticked ∙ tick-shown law shows stamp) in
       (checks-after h stamp [] near late, isNow)
 
-  pub tick-timely : (now : ℕ) → r ≡ Moment.At now → Timely (h .calls) now
+  pub tick-timely : (now : ℕ) → r ≡ NextClock.At now → Timely (h .calls) now
   tick-timely now e =
       let (isNow, (near, late)) = tick-kept h stamp now (sym e ∙ ticked ∙ tick-shown law shows stamp) in
       record {
         forward = omega arith;
         near = omega (arith, leb-false tooFar (ticks h stamp) near);
-        inTime = omega (arith, ltb-false end (nextClock h stamp) late);
+        inTime = omega (arith, ltb-false lastTick (nextClock h stamp) late);
       }
 
 -- What the table shows, as the calls inside read it.
 
 idle-fair : (m : List ℕ) (tree : Tree) (cs : List Call) (t k : ℕ) → ShowsFair m tree cs k → ShowsFair m tree (idle t ∷ cs) k
-unfolding sent fairPieces mark activity active queue
+unfolding sentIn fairPieces mark activity active queue
 idle-fair m tree cs t k s =
     record { sent = s .sent; fairStart = s .fairStart; fairSent = s .fairSent; virtual = s .virtual; mark = s .mark; active = s .active }
 
 idle-same : (t : ℕ) (cs : List Call) (k : ℕ) → SameLeaf cs (idle t ∷ cs) k
-unfolding queue headNumber sentRealTime pieces
+unfolding queue headNumber sentRealTimeIn pieces
 idle-same t cs k = record { numbers = refl; bytes = refl; pieces = refl; waits = refl; head = refl }
 
 module _ {m l : List ℕ} {h : History} (law : Lawful h) (shows : Shows m l h) where
@@ -89,16 +90,16 @@ module _ {m l : List ℕ} {h : History} (law : Lawful h) (shows : Shows m l h) w
 
   -- "'None waits' moves the clock and nothing else."
   pub idle-shows : (t : ℕ) → ShowsButClock m l (withCall h (idle t))
-  unfolding queue headNumber nextNumber accepted sentRealTime pieces
+  unfolding queue headNumber nextNumber acceptedIn sentRealTimeIn pieces
   idle-shows t =
       record {
         size = shows .size;
         room = shows .room;
-        bytes = shows .header .bytes;
+        accepted = shows .header .accepted;
         count = shows .header .count;
         rest = shows .header .rest;
         trees = shows .trees;
-        leaves = λ k b. leaf-cells (h .tree) (idle-same t (h .calls) k) (shows .leaves k b .came) (λ f low f18. refl) (shows .leaves k b);
+        leaves = λ k b. leaf-cells (h .tree) (idle-same t (h .calls) k) (shows .leaves k b .nextNumber) (λ f low f18. refl) (shows .leaves k b);
         fairs = λ k b. idle-fair m (h .tree) (h .calls) t k (shows .fairs k b);
         blank = shows .blank;
         slots = λ k b. record { waiting = shows .slots k b .waiting; free = shows .slots k b .free };
@@ -108,7 +109,7 @@ module _ {m l : List ℕ} {h : History} (law : Lawful h) (shows : Shows m l h) w
 
 module _ {m′ : List ℕ} (h : History) (law : Lawful h) (stamp : ℕ) (narrow : stamp < wheel) {now : ℕ} where
   module _ {m l : List ℕ} (shows : Shows m l h) where
-    pub none-right : outcome (departureChecks h stamp) ≡ passed → now ≡ nextClock h stamp → NothingWaits (h .calls) → m′ ≡ with (with m CLOCK HEADER now) STAMP HEADER stamp
+    pub none-right : outcome (departureChecks (h .calls) (ticks h stamp)) ≡ passed → now ≡ nextClock h stamp → NothingWaits (h .calls) → m′ ≡ withHeader (withHeader m CLOCK now) STAMP stamp
         → DepartRight h stamp NoneWaits m′ l
     none-right passes isNow nothing stored =
         record {
@@ -123,8 +124,8 @@ module _ {m′ : List ℕ} (h : History) (law : Lawful h) (stamp : ℕ) (narrow 
         isClock = unfold clock in refl
 
   module _ {m l : List ℕ} {p : Packet} {j : ℕ} {r : Rule} where
-    pub leaves-right : outcome (departureChecks h stamp) ≡ passed → now ≡ nextClock h stamp → Allowed (h .tree) (h .calls) (left now j r)
-        → TakeRight h now j r p m l → m′ ≡ with (with m CLOCK HEADER now) STAMP HEADER stamp → DepartRight h stamp (Leaves p) m′ l
+    pub leaves-right : outcome (departureChecks (h .calls) (ticks h stamp)) ≡ passed → now ≡ nextClock h stamp → Allowed (h .tree) (h .calls) (left now j r)
+        → TakeRight h now j r p m l → m′ ≡ withHeader (withHeader m CLOCK now) STAMP stamp → DepartRight h stamp (Leaves p) m′ l
     leaves-right passes isNow allowed taken stored =
         record {
           next = withCall h (left now j r);
@@ -150,7 +151,7 @@ module _ {m′ : List ℕ} (h : History) (law : Lawful h) (stamp : ℕ) (narrow 
         rule = sym (taken .rule)
 
         chosen : Choice (h .tree) (h .calls) (nextClock h stamp) (p .class) (p .rule)
-        chosen = transport (λ i. Choice (h .tree) (h .calls) (isNow i) (class i) (rule i)) (allowed .1)
+        chosen = transport (λ i. Choice (h .tree) (h .calls) (isNow i) (class i) (rule i)) (allowed .finds)
 
 -- from the promise of one history that the arrays showed, a state is reached
 pub departs-reached : {m l : List ℕ} {h : History} (law : Lawful h) (stamp : ℕ) (answer : Departure) → DepartRight h stamp answer m l → Reached m l

@@ -7,7 +7,7 @@ use mathlib.Core.List.{List, [], _∷_}
 use native.Mathlib.Omega.{arith}
 use lib.ListN.{length, getD}
 use Rattle.curve.specs.Answers.{Least}
-use Rattle.curve.specs.Pieces.{BothStand, early}
+use Rattle.curve.specs.Keeping.{BothStand, early}
 use Rattle.curve.specs.declared.Curve.{Curve}
 use Rattle.curve.specs.declared.Kept.{Kept}
 use Rattle.tree.specs.declared.Tree.{Tree}
@@ -26,15 +26,13 @@ use Rattle.rules.proofs.Queues.{queue-left, waits-leaf, head-length}
 use Rattle.rules.proofs.Active.{choice-waits, numbers}
 use Rattle.rules.proofs.Sent.{weigh-some, c-below-w, w-most}
 use Rattle.rules.proofs.Leaves.{pieces-in-order, has-piece}
-use Rattle.state.specs.Table.{at, with}
-use Rattle.state.specs.Columns.{KIND, CAME, LEFT, BYTES-RT, STEEP-START, STEEP-SENT, FLAT-START, FLAT-SENT, ELIGIBLE, DEADLINE, ACTIVE, NEVER}
+use Rattle.state.specs.Table.{at, CLASSES, slotOf}
+use Rattle.state.specs.Columns.{KIND, NEXT-NUMBER, HEAD-NUMBER, SENT-REAL-TIME, STEEP-START, STEEP-SENT, FLAT-START, FLAT-SENT, ELIGIBLE, DEADLINE, ACTIVE, NEVER}
 use Rattle.state.specs.State.{keptFor, hasTimes, ShowsTree}
-use Rattle.state.specs.Steps.{curveIn, keptIn, RipeStored, DueStored}
-use Rattle.fair.specs.Steps.{Planted, BeforeRest, AfterRest}
-use Rattle.state.specs.Steps.{LeafOnly}
-use Rattle.sched.specs.StepsDeparting.{Timable, Ripened, NextTimed, untimed, timed, ShowsTimes, BeforeSettle, AfterSettle}
-use Rattle.state.proofs.Cells.{at-with-same, at-with-column}
-use Rattle.state.proofs.LeafCells.{kind-none, kind-some, curve-in, narrow-curve, curve-rises, kept-curved, kept-soon, tree-cells, only-none, only-with, only-then, curve-same, kept-same}
+use Rattle.state.specs.Steps.{curveIn, keptIn, withTimes, RipeTick, DueTick, LeafOnly, Planted, Timable, NextRipe, NextTimed, untimed, timed, ShowsTimes}
+use Rattle.fair.specs.Steps.{BeforeRest, AfterRest}
+use Rattle.sched.specs.StepsDeparting.{BeforeSettle, AfterSettle}
+use Rattle.state.proofs.LeafCells.{kind-none, kind-some, curve-in, narrow-code, curve-rises, kept-curved, kept-soon, tree-cells, only-none, times-with}
 use Rattle.state.proofs.Resting.{still-active}
 use Rattle.state.proofs.Choosing.{count-most}
 use Rattle.sched.proofs.Departing.{kept-stay, pieces-stay, bytes-fair, head-at, deadline-from, eligible-from}
@@ -77,29 +75,29 @@ module _ {m l : List ℕ} {tree : Tree} {cs : List Call} {j t : ℕ} {r : Rule} 
   lawful = (b .allowed, b .planted .lawful)
 
   waiting : waits cs j ≡ true
-  waiting = choice-waits tree grown cs t j r (b .allowed .1)
+  waiting = choice-waits tree grown cs t j r (b .allowed .finds)
 
   class : j < tree .count
   class = leaf-class tree j (waits-leaf tree cs (b .planted .lawful) j waiting)
 
-  pub settle-class : j < 64
+  pub settle-class : j < CLASSES
   settle-class = omega (arith, class, count-most tree grown)
 
   numbered : headNumber (left t j r ∷ cs) j + length (queue (left t j r ∷ cs) j) ≡ nextNumber (left t j r ∷ cs) j
   numbered = numbers tree grown (left t j r ∷ cs) lawful j
 
   -- whether a packet waits is read off the two counts
-  pub next-waits : at m j LEFT < at m j CAME → waits (left t j r ∷ cs) j ≡ true
+  pub next-waits : at m j HEAD-NUMBER < at m j NEXT-NUMBER → waits (left t j r ∷ cs) j ≡ true
   next-waits less = some-nonempty (queue (left t j r ∷ cs) j) (omega (arith, numbered, b .number, b .next))
 
-  pub none-waits : at m j CAME ≤ at m j LEFT → waits (left t j r ∷ cs) j ≡ false
+  pub none-waits : at m j NEXT-NUMBER ≤ at m j HEAD-NUMBER → waits (left t j r ∷ cs) j ≡ false
   none-waits less = none-empty (queue (left t j r ∷ cs) j) (omega (arith, numbered, b .number, b .next))
 
   -- the next head's length is in its slot
-  pub next-length : waits (left t j r ∷ cs) j ≡ true → getD l (64 * j + at m j LEFT % 64) 0 ≡ headLength (left t j r ∷ cs) j
+  pub next-length : waits (left t j r ∷ cs) j ≡ true → getD l (slotOf j (at m j HEAD-NUMBER)) 0 ≡ headLength (left t j r ∷ cs) j
   next-length still =
-      let place : at m j LEFT ≡ headNumber (left t j r ∷ cs) j + 0 = omega (arith, b .number) in
-      ap (λ (x : ℕ). getD l (64 * j + x % 64) 0) place
+      let place : at m j HEAD-NUMBER ≡ headNumber (left t j r ∷ cs) j + 0 = omega (arith, b .number) in
+      ap (λ (x : ℕ). getD l (slotOf j x) 0) place
       ∙ b .slots .waiting 0 (nonempty-some (queue (left t j r ∷ cs) j) still)
       ∙ head-at (queue (left t j r ∷ cs) j)
 
@@ -118,7 +116,7 @@ module _ {m l : List ℕ} {tree : Tree} {cs : List Call} {j t : ℕ} {r : Rule} 
   pub next-timable : (n : ℕ) → n ≤ longest → (at m j KIND ≡ 0 → ⊥) → Timable m j n
   next-timable n short some =
       record {
-        narrow = narrow-curve (b .planted .right) class shows;
+        narrow = narrow-code (b .planted .right) class shows;
         rising = curve-rises (b .planted .right) class shows (curved some);
         bytes = omega (arith, b .bytes, c-below-w tree grown (left t j r ∷ cs) j, w-most tree grown (left t j r ∷ cs) lawful j);
         kept = kept-soon tree cs (b .planted .lawful) (b .kept);
@@ -146,61 +144,37 @@ module _ {m l : List ℕ} {tree : Tree} {cs : List Call} {j t : ℕ} {r : Rule} 
             ∙ sym (still-active tree grown cs (b .planted .lawful) j waiting t r still k);
       }
 
-  -- what is known once the eligible time is in place
-  pub record Ripe (mid : List ℕ) : Type 0 where
-    pub only : LeafOnly m mid j
-    pub kept : keptIn mid j ≡ keptIn m j
-    pub eligible : EligibleOf tree (left t j r ∷ cs) j (at mid j ELIGIBLE)
-
   module _ (some : at m j KIND ≡ 0 → ⊥) (still : waits (left t j r ∷ cs) j ≡ true) where
     has : hasTimes tree (left t j r ∷ cs) j ≡ true
     has = and-both (waits (left t j r ∷ cs) j) (hasCurve (curveOf tree j)) still (curved some)
 
-    eligible-anew : (e : ℕ) → Least (BothStand (early (curveIn m j)) (keptIn m j) (at m j BYTES-RT)) e → EligibleOf tree (left t j r ∷ cs) j e
+    eligible-anew : (e : ℕ) → RipeTick m j e → EligibleOf tree (left t j r ∷ cs) j e
     eligible-anew e least =
         let order = pieces-in-order tree (left t j r ∷ cs) lawful j in
         eligible-from (curveOf tree j) (curve-rising tree grown j class (curved some)) (pieces (left t j r ∷ cs) j) (has-piece (left t j r ∷ cs) j still) (order .order)
         (sentRealTime (left t j r ∷ cs) j) (order .sent)
         (stands-is (ap early (curve-in shows)) (kept-after ∙ kept-curved tree (left t j r ∷ cs) j (curved some)) (b .bytes) least)
 
-    ripe-anew : {mid : List ℕ} → RipeStored m mid j → Ripe mid
-    ripe-anew s =
-        subst Ripe (sym (s .stored))
-        (record {
-          only = only-with m j ELIGIBLE (s .eligible) (b .planted .size) settle-class (omega arith) (omega arith);
-          kept = kept-same m j ELIGIBLE (s .eligible) settle-class (omega arith);
-          eligible =
-              subst (EligibleOf tree (left t j r ∷ cs) j)
-              (sym (at-with-same m j ELIGIBLE (s .eligible) (b .planted .size) settle-class (omega arith)))
-              (eligible-anew (s .eligible) (s .isEligible));
-        })
-
-    settled-due : (n : ℕ) → n ≡ headLength (left t j r ∷ cs) j → {mid m′ : List ℕ} → Ripe mid → DueStored mid m′ j n → AfterSettle m m′ tree cs j t r
-    settled-due n head {mid} ripe s =
+    deadline-anew : (n : ℕ) → n ≡ headLength (left t j r ∷ cs) j → (d : ℕ) → DueTick m j n d → DeadlineOf tree (left t j r ∷ cs) j d
+    deadline-anew n head d least =
         let order = pieces-in-order tree (left t j r ∷ cs) lawful j in
-        let bytes : at mid j BYTES-RT + weigh n ≡ sentRealTime (left t j r ∷ cs) j + weigh (headLength (left t j r ∷ cs) j) =
-        omega (arith, ripe .only .columns j BYTES-RT settle-class (omega arith), b .bytes, ap weigh head)
-        in
-        let due : DeadlineOf tree (left t j r ∷ cs) j (s .deadline) =
         deadline-from (curveOf tree j) (curve-rising tree grown j class (curved some)) (pieces (left t j r ∷ cs) j) (has-piece (left t j r ∷ cs) j still) (order .order)
         (sentRealTime (left t j r ∷ cs) j) (weigh (headLength (left t j r ∷ cs) j)) (order .sent)
         (weigh-some (headLength (left t j r ∷ cs) j) (head-length tree (left t j r ∷ cs) lawful j still .0))
-        (stands-is (curve-same settle-class (ripe .only) ∙ curve-in shows)
-        (ripe .kept ∙ kept-after ∙ kept-curved tree (left t j r ∷ cs) j (curved some)) bytes (s .isDeadline))
-        in
-        let size = ripe .only .size in
-        subst (λ (x : List ℕ). AfterSettle m x tree cs j t r) (sym (s .stored))
-        (settled-only
-        (only-then (ripe .only) (only-with mid j DEADLINE (s .deadline) size settle-class (omega arith) (omega arith)))
-        (kept-same mid j DEADLINE (s .deadline) settle-class (omega arith) ∙ ripe .kept)
+        (stands-is (curve-in shows) (kept-after ∙ kept-curved tree (left t j r ∷ cs) j (curved some)) (λ i. b .bytes i + weigh (head i)) least)
+
+    -- both times are stored
+    settled-timed : (n : ℕ) → n ≡ headLength (left t j r ∷ cs) j → {m′ : List ℕ} {e d : ℕ} → EligibleOf tree (left t j r ∷ cs) j e → DueTick m j n d → m′ ≡ withTimes m j e d
+        → AfterSettle m m′ tree cs j t r
+    settled-timed n head {m′} {e} {d} ripe due stored =
+        let cells = times-with m j e d (b .planted .size) settle-class in
+        subst (λ (x : List ℕ). AfterSettle m x tree cs j t r) (sym stored)
+        (settled-only (cells .only) (cells .kept)
         (record {
-          eligible = λ e.
-              subst (EligibleOf tree (left t j r ∷ cs) j)
-              (sym (at-with-column mid j DEADLINE (s .deadline) j ELIGIBLE settle-class settle-class (λ q. omega arith))) (ripe .eligible);
-          deadline = λ e.
-              subst (DeadlineOf tree (left t j r ∷ cs) j) (sym (at-with-same mid j DEADLINE (s .deadline) size settle-class (omega arith))) due;
-          never = λ e. never has e;
-          noDeadline = λ e. never has e;
+          eligible = λ q. subst (EligibleOf tree (left t j r ∷ cs) j) (sym (cells .eligible)) ripe;
+          deadline = λ q. subst (DeadlineOf tree (left t j r ∷ cs) j) (sym (cells .deadline)) (deadline-anew n head d due);
+          never = λ q. never has q;
+          noDeadline = λ q. never has q;
         })
         still)
 
@@ -220,12 +194,11 @@ module _ {m l : List ℕ} {tree : Tree} {cs : List Call} {j t : ℕ} {r : Rule} 
 
   -- the last packet has left: no times, and the leaf turns passive
   pub settled-last : {m′ : List ℕ} → waits (left t j r ∷ cs) j ≡ false
-      → AfterRest (with (with m j ELIGIBLE NEVER) j DEADLINE 0) m′ tree cs j → AfterSettle m m′ tree cs j t r
+      → AfterRest (withTimes m j NEVER 0) m′ tree cs j → AfterSettle m m′ tree cs j t r
   settled-last {m′} empty rest =
-      let first = only-with m j ELIGIBLE NEVER (b .planted .size) settle-class (omega arith) (omega arith) in
-      let mid = with m j ELIGIBLE NEVER in
-      let only = only-then first (only-with mid j DEADLINE 0 (first .size) settle-class (omega arith) (omega arith)) in
-      let cell : (k f : ℕ) → k < 64 → f < 23 → at m′ k f ≡ at (with mid j DEADLINE 0) k f = λ k f l h. rest .others k f l (omega arith) (λ e. omega arith) in
+      let cells = times-with m j NEVER 0 (b .planted .size) settle-class in
+      let only = cells .only in
+      let cell : (k f : ℕ) → k < CLASSES → f < ACTIVE → at m′ k f ≡ at (withTimes m j NEVER 0) k f = λ k f l h. rest .others k f l (omega arith) (λ e. omega arith) in
       let none : hasTimes tree (left t j r ∷ cs) j ≡ false =
       is-false (hasTimes tree (left t j r ∷ cs) j) (λ q. never (and-left (waits (left t j r ∷ cs) j) (hasCurve (curveOf tree j)) q) empty)
       in
@@ -240,27 +213,22 @@ module _ {m l : List ℕ} {tree : Tree} {cs : List Call} {j t : ℕ} {r : Rule} 
               steep = record { start = cell j STEEP-START settle-class (omega arith) i; sent = cell j STEEP-SENT settle-class (omega arith) i };
               flat = record { start = cell j FLAT-START settle-class (omega arith) i; sent = cell j FLAT-SENT settle-class (omega arith) i };
             })
-            ∙ kept-same mid j DEADLINE 0 settle-class (omega arith)
-            ∙ kept-same m j ELIGIBLE NEVER settle-class (omega arith)
+            ∙ cells .kept
             ∙ kept-after;
         times =
             record {
               eligible = λ e. never e none;
               deadline = λ e. never e none;
-              never = λ e.
-                  cell j ELIGIBLE settle-class (omega arith)
-                  ∙ at-with-column mid j DEADLINE 0 j ELIGIBLE settle-class settle-class (λ q. omega arith)
-                  ∙ at-with-same m j ELIGIBLE NEVER (b .planted .size) settle-class (omega arith);
-              noDeadline = λ e. cell j DEADLINE settle-class (omega arith) ∙ at-with-same mid j DEADLINE 0 (first .size) settle-class (omega arith);
+              never = λ e. cell j ELIGIBLE settle-class (omega arith) ∙ cells .eligible;
+              noDeadline = λ e. cell j DEADLINE settle-class (omega arith) ∙ cells .deadline;
             };
         actives = λ k l. rest .actives t r k l;
       }
 
-  pub before-rest : waits (left t j r ∷ cs) j ≡ false → at m j CAME ≤ at m j LEFT → BeforeRest (with (with m j ELIGIBLE NEVER) j DEADLINE 0) tree cs j
+  pub before-rest : waits (left t j r ∷ cs) j ≡ false → at m j NEXT-NUMBER ≤ at m j HEAD-NUMBER → BeforeRest (withTimes m j NEVER 0) tree cs j
   before-rest empty less =
-      let first = only-with m j ELIGIBLE NEVER (b .planted .size) settle-class (omega arith) (omega arith) in
-      let mid = with m j ELIGIBLE NEVER in
-      let only = only-then first (only-with mid j DEADLINE 0 (first .size) settle-class (omega arith) (omega arith)) in
+      let cells = times-with m j NEVER 0 (b .planted .size) settle-class in
+      let only = cells .only in
       record {
         planted = planted-only only (b .planted);
         waiting = waiting;
@@ -268,24 +236,16 @@ module _ {m l : List ℕ} {tree : Tree} {cs : List Call} {j t : ℕ} {r : Rule} 
         actives = λ k l. only .fairs k ACTIVE (omega (arith, count-most tree grown)) (omega arith) (omega arith) ∙ b .actives k l;
       }
 
--- the eligible time stays the same after a departure by the fair rule
-ripe-kept : {m l : List ℕ} {tree : Tree} {cs : List Call} {j t : ℕ} (b : BeforeSettle m l tree cs j t Fair) (some : at m j KIND ≡ 0 → ⊥) → Ripe b m
-ripe-kept {m} {l} {tree} {cs} {j} {t} b some =
-    record {
-      only = only-none m j (b .planted .size);
-      kept = refl;
-      eligible =
-          rw (pieces-stay t j Fair cs j, bytes-fair t j cs j)
-          (b .times .eligible (and-both (waits cs j) (hasCurve (curveOf tree j)) (waiting b) (curved b some)));
-    }
-
-pub ripe-next : {m l : List ℕ} {tree : Tree} {cs : List Call} {j t : ℕ} (r : Rule) (b : BeforeSettle m l tree cs j t r) (some : at m j KIND ≡ 0 → ⊥)
-    → waits (left t j r ∷ cs) j ≡ true → (mid : List ℕ) → Ripened r m mid j → Ripe b mid
-ripe-next RealTime b some still mid s = ripe-anew b some still s
-ripe-next Fair b some still mid e = subst (Ripe b) (sym e) (ripe-kept b some)
+-- the eligible time of the next head, by either rule: it stays the same after a departure by the fair rule
+next-eligible : {m l : List ℕ} {tree : Tree} {cs : List Call} {j t : ℕ} (r : Rule) (b : BeforeSettle m l tree cs j t r) → (at m j KIND ≡ 0 → ⊥)
+    → waits (left t j r ∷ cs) j ≡ true → (e : ℕ) → NextRipe r m j e → EligibleOf tree (left t j r ∷ cs) j e
+next-eligible RealTime b some still e ripe = eligible-anew b some still e ripe
+next-eligible {m} {l} {tree} {cs} {j} {t} Fair b some still e same =
+    rw (pieces-stay t j Fair cs j, bytes-fair t j cs j)
+    (subst (EligibleOf tree cs j) (sym same) (b .times .eligible (and-both (waits cs j) (hasCurve (curveOf tree j)) (waiting b) (curved b some))))
 
 pub settled-next : {m l m′ : List ℕ} {tree : Tree} {cs : List Call} {j t : ℕ} (r : Rule) (b : BeforeSettle m l tree cs j t r) (n : ℕ)
     → n ≡ headLength (left t j r ∷ cs) j → waits (left t j r ∷ cs) j ≡ true → NextTimed m m′ j n r → AfterSettle m m′ tree cs j t r
 settled-next {m} {l} {m′} {tree} {cs} {j} {t} r b n head still (untimed e same) =
     subst (λ (x : List ℕ). AfterSettle m x tree cs j t r) (sym same) (settled-bare b e still)
-settled-next r b n head still (timed some mid ripened due) = settled-due b some still n head (ripe-next r b some still mid ripened) due
+settled-next r b n head still (timed some e d ripe due stored) = settled-timed b some still n head (next-eligible r b some still e ripe) due stored

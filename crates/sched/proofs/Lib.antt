@@ -1,11 +1,10 @@
 -- The laws of the scheduler's calls.
 pub mod Asking
-pub mod StartingShows
+pub mod Starting
 pub mod ArrivingSlots
-pub mod ArrivingLeaf
 pub mod ArrivingTimes
 pub mod Arriving
-pub mod ShowsOne
+pub mod One
 pub mod Departing
 pub mod DepartingNext
 pub mod DepartingTake

@@ -12,7 +12,7 @@ use Rattle.curve.proofs.Laws.Answers.{least-one}
 use Rattle.tree.specs.declared.Tree.{Tree}
 use Rattle.tree.specs.Trees.{curveOf, isChild}
 use Rattle.rules.specs.Calls.{Call}
-use Rattle.rules.specs.Limits.{end}
+use Rattle.rules.specs.Limits.{lastTick}
 use Rattle.rules.specs.Queues.{waits}
 use Rattle.rules.specs.Classes.{active}
 use Rattle.rules.specs.Fair.{virtualTimeOf}
@@ -20,23 +20,23 @@ use Rattle.rules.specs.Choice.{hasCurve, Contends, ActiveChild}
 use Rattle.rules.specs.Lawful.{Grown, right, none}
 use Rattle.rules.proofs.Tests.{never, decided, is-true, and-left, and-right, and-both}
 use Rattle.rules.proofs.Over.{any-which, last-or-below}
-use Rattle.rules.proofs.Trees.{leaf-class, child-class, child-some}
+use Rattle.rules.proofs.Trees.{none-count, leaf-class, child-class, child-some}
 use Rattle.rules.proofs.Queues.{waits-leaf}
 use Rattle.rules.proofs.Active.{interior-active}
 use Rattle.rules.proofs.Leaves.{deadline-below}
 use Rattle.rules.proofs.Fair.{virtual-most}
 use Rattle.rules.proofs.Sent.{w-most}
-use Rattle.state.specs.declared.choice.Found.{Found}
-use Rattle.state.specs.Table.{at}
+use Rattle.state.specs.declared.choice.LeafFound.{LeafFound}
+use Rattle.state.specs.Table.{at, CLASSES}
 use Rattle.state.specs.Columns.{ELIGIBLE, DEADLINE, CHILD, SIBLING, VIRTUAL, ACTIVE, NEVER}
 use Rattle.state.specs.State.{hasTimes, nextSibling}
 use Rattle.state.specs.StepsChoosing.{Told, Soonest, Stepping, Lightest}
 use Rattle.state.proofs.Chain.{FoundChild, NextChild, first-child, next-sibling, next-found, next-none}
 use Rattle.state.proofs.Resting.{zero-passive, passive-zero}
 
-pub count-most : (tree : Tree) → Grown tree → tree .count ≤ 64
-count-most tree (right r) = r .count .below
-count-most tree (none e) = omega arith
+pub count-most : (tree : Tree) → Grown tree → tree .count ≤ CLASSES
+count-most tree (right r) = r .shape .count .below
+count-most tree (none e) = omega (arith, none-count e)
 
 -- A walk over classes in increasing order that keeps the first of smallest value.
 
@@ -93,29 +93,29 @@ RipeCell m tick k = at m k ELIGIBLE ≤ tick
 abbrev pub dueCell : List ℕ → ℕ → ℕ
 dueCell m k = at m k DEADLINE
 
-abbrev pub FoundSoonest : List ℕ → ℕ → ℕ → ℕ → Found → Type 0
-FoundSoonest m tick n least (Found.At j) = Leads (RipeCell m tick) (dueCell m) n j least
-FoundSoonest m tick n least Found.Nothing = least ≡ NEVER
+abbrev pub FoundSoonest : List ℕ → ℕ → ℕ → ℕ → LeafFound → Type 0
+FoundSoonest m tick n least (LeafFound.At j) = Leads (RipeCell m tick) (dueCell m) n j least
+FoundSoonest m tick n least LeafFound.Nothing = least ≡ NEVER
 
-pub soonest-more : (m : List ℕ) (tick n least : ℕ) (found : Found) → FoundSoonest m tick n least found → FoundSoonest m tick (suc n) least found
-soonest-more m tick n least (Found.At j) h = leads-more (RipeCell m tick) (dueCell m) n least h
-soonest-more m tick n least Found.Nothing h = h
+pub soonest-more : (m : List ℕ) (tick n least : ℕ) (found : LeafFound) → FoundSoonest m tick n least found → FoundSoonest m tick (suc n) least found
+soonest-more m tick n least (LeafFound.At j) h = leads-more (RipeCell m tick) (dueCell m) n least h
+soonest-more m tick n least LeafFound.Nothing h = h
 
 -- one turn of the walk
-pub record Looked (m : List ℕ) (tick n least : ℕ) (found : Found) : Type 0 where
+pub record Looked (m : List ℕ) (tick n least : ℕ) (found : LeafFound) : Type 0 where
   pub passed : Passed (RipeCell m tick) (dueCell m) n least
   pub met : FoundSoonest m tick n least found
 
-pub looked-none : (m : List ℕ) (tick : ℕ) → Looked m tick 0 NEVER Found.Nothing
+pub looked-none : (m : List ℕ) (tick : ℕ) → Looked m tick 0 NEVER LeafFound.Nothing
 looked-none m tick = record { passed = passed-none (RipeCell m tick) (dueCell m) NEVER; met = refl }
 
-module _ (m : List ℕ) (tick n least : ℕ) (found : Found) (before : Looked m tick n least found) {least′ : ℕ} {found′ : Found} where
+module _ (m : List ℕ) (tick n least : ℕ) (found : LeafFound) (before : Looked m tick n least found) {least′ : ℕ} {found′ : LeafFound} where
   pub looked-past : (RipeCell m tick n → least ≤ dueCell m n) → found′ ≡ found → least′ ≡ least → Looked m tick (n + 1) least′ found′
   looked-past this e f =
       rw (add-one, e, f)
       (record { passed = passed-more (RipeCell m tick) (dueCell m) n least this (before .passed); met = soonest-more m tick n least found (before .met) })
 
-  pub looked-new : RipeCell m tick n → dueCell m n < least → found′ ≡ Found.At n → least′ ≡ dueCell m n → Looked m tick (n + 1) least′ found′
+  pub looked-new : RipeCell m tick n → dueCell m n < least → found′ ≡ LeafFound.At n → least′ ≡ dueCell m n → Looked m tick (n + 1) least′ found′
   looked-new ripe less e f =
       rw (add-one, e, f)
       (record {
@@ -123,7 +123,7 @@ module _ (m : List ℕ) (tick n least : ℕ) (found : Found) (before : Looked m 
         met = leads-new (RipeCell m tick) (dueCell m) n least ripe less (before .passed);
       })
 
-module _ (m : List ℕ) (tree : Tree) (cs : List Call) (told : Told m tree cs) (tick : ℕ) (inTime : tick ≤ end) where
+module _ (m : List ℕ) (tree : Tree) (cs : List Call) (told : Told m tree cs) (tick : ℕ) (inTime : tick ≤ lastTick) where
   contends-cell : (k d : ℕ) → Contends tree cs tick k d → (k < tree .count) × (RipeCell m tick k) × (dueCell m k ≡ d)
   contends-cell k d c =
       let below = leaf-class tree k (c .leaf) in
@@ -147,9 +147,9 @@ module _ (m : List ℕ) (tree : Tree) (cs : List Call) (told : Told m tree cs) (
       (λ (e : hasTimes tree cs k ≡ false). absurd (omega (arith, told .leaves k below .never e)))
       (decided (hasTimes tree cs k))
 
-  rightly : (n least : ℕ) (found : Found) → n ≡ tree .count → Passed (RipeCell m tick) (dueCell m) n least → FoundSoonest m tick n least found
+  rightly : (n least : ℕ) (found : LeafFound) → n ≡ tree .count → Passed (RipeCell m tick) (dueCell m) n least → FoundSoonest m tick n least found
       → Soonest tree cs tick found
-  rightly n least (Found.At j) e passed leads =
+  rightly n least (LeafFound.At j) e passed leads =
       record {
         deadline = least;
         first =
@@ -161,11 +161,11 @@ module _ (m : List ℕ) (tree : Tree) (cs : List Call) (told : Told m tree cs) (
                   ⊎-elim (λ (h : j ≤ k). h) (λ (h : k < j). absurd (omega (arith, leads .lower k h ripe))) (le-or-lt j k);
             };
       }
-  rightly n least Found.Nothing e passed never-found = λ k d c.
+  rightly n least LeafFound.Nothing e passed never-found = λ k d c.
       let (below, ripe, due) = contends-cell k d c in
       omega (arith, passed k (omega arith) ripe, deadline-below tree (told .grown) cs (told .lawful) k d (c .waiting) (c .curved) (c .isDeadline))
 
-  pub soonest-right : (n least : ℕ) (found : Found) → n ≡ tree .count → Looked m tick n least found → Soonest tree cs tick found
+  pub soonest-right : (n least : ℕ) (found : LeafFound) → n ≡ tree .count → Looked m tick n least found → Soonest tree cs tick found
   soonest-right n least found e looked = rightly n least found e (looked .passed) (looked .met)
 
 -- The fair rule: one step down.
@@ -197,7 +197,7 @@ module _ (m : List ℕ) (tree : Tree) (i best least child : ℕ) (w : Walked m t
   walked-child : FoundChild tree i (w .n) child
   walked-child = next-found (w .next) some
 
-  pub walked-below : (tree .count ≤ 64) → (1 ≤ child) × (child < tree .count)
+  pub walked-below : (tree .count ≤ CLASSES) → (1 ≤ child) × (child < tree .count)
   walked-below small = (child-some tree i child (walked-child .child), child-class tree i child (walked-child .child))
 
   passed-here : Passed (ActiveCell m tree i) (virtualCell m) child least
@@ -234,10 +234,10 @@ module _ (m : List ℕ) (tree : Tree) (i best least child : ℕ) (w : Walked m t
           met = inr (leads-new (ActiveCell m tree i) (virtualCell m) child least meant less passed-here);
         }
 
-    pub walked-falls : tree .count ≤ 64 → (at m child SIBLING ≡ 0) ⊎ ((child < at m child SIBLING) × (at m child SIBLING < 64))
+    pub walked-falls : tree .count ≤ CLASSES → (at m child SIBLING ≡ 0) ⊎ ((child < at m child SIBLING) × (at m child SIBLING < CLASSES))
     walked-falls small = falls next-here
       where
-        falls : NextChild tree i (suc child) (at m child SIBLING) → (at m child SIBLING ≡ 0) ⊎ ((child < at m child SIBLING) × (at m child SIBLING < 64))
+        falls : NextChild tree i (suc child) (at m child SIBLING) → (at m child SIBLING ≡ 0) ⊎ ((child < at m child SIBLING) × (at m child SIBLING < CLASSES))
         falls (inl f) = inr (omega (arith, f .after), omega (arith, child-class tree i (at m child SIBLING) (f .child)))
         falls (inr f) = inl (f .zero)
 

@@ -8,7 +8,7 @@ use mathlib.Core.Logic.{⊎-elim}
 use native.Mathlib.Omega.{arith}
 use Rattle.curve.proofs.Laws.Order.{le-or-lt}
 use Rattle.tree.specs.declared.Tree.{Tree}
-use Rattle.tree.specs.Trees.{isChild, isLeaf, depth}
+use Rattle.tree.specs.Trees.{deepest, isChild, isLeaf, depth}
 use Rattle.tree.specs.Rules.{RightTree}
 use Rattle.tree.proofs.Depths.{lower-parent, depth-up}
 use Rattle.rules.specs.Calls.{Call}
@@ -16,7 +16,7 @@ use Rattle.rules.specs.Queues.{waits}
 use Rattle.rules.specs.Choice.{NothingWaits}
 use Rattle.rules.specs.Lawful.{Grown, right, none}
 use Rattle.rules.proofs.Tests.{never, is-true, is-false}
-use Rattle.rules.proofs.Trees.{leaf-class, child-class, child-some, child-parent, within-top}
+use Rattle.rules.proofs.Trees.{none-count, leaf-class, child-class, child-some, child-parent, within-top}
 use Rattle.rules.proofs.Queues.{waits-leaf}
 use Rattle.rules.proofs.Active.{active-of}
 use Rattle.state.specs.Table.{at}
@@ -27,16 +27,16 @@ use Rattle.state.proofs.Choosing.{cell-passive, cell-active}
 
 pub right-tree : (tree : Tree) → Grown tree → (i : ℕ) → i < tree .count → RightTree tree
 right-tree tree (right r) i below = r
-right-tree tree (none e) i below = absurd (omega arith)
+right-tree tree (none e) i below = absurd (omega (arith, none-count e))
 
 -- a child lies one deeper than its parent, and nothing lies deeper than 8
-child-depth : (tree : Tree) → Grown tree → (p k : ℕ) → isChild tree p k ≡ true → (depth tree k ≡ suc (depth tree p)) × (depth tree k ≤ 8)
+child-depth : (tree : Tree) → Grown tree → (p k : ℕ) → isChild tree p k ≡ true → (depth tree k ≡ suc (depth tree p)) × (depth tree k ≤ deepest)
 child-depth tree grown p k child =
     let below = child-class tree p k child in
     let r = right-tree tree grown k below in (
-      depth-up tree (tree .count) (lower-parent tree (tree .count) (r .bodies)) k (child-some tree p k child) below
+      depth-up tree (tree .count) (lower-parent tree (tree .count) (r .shape .bodies)) k (child-some tree p k child) below
           ∙ ap (λ (x : ℕ). suc (depth tree x)) (child-parent tree p k child),
-      r .depths k below,
+      r .shape .depths k below,
     )
 
 module _ {m : List ℕ} {tree : Tree} {cs : List Call} {i steps : ℕ} (d : Descending m tree cs i steps) where

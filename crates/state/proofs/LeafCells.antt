@@ -7,20 +7,21 @@ use mathlib.Core.Path.{_≡_, refl, _∙_, ap}
 use mathlib.Core.Bool.{true, false}
 use mathlib.Core.List.{List}
 use lib.ListN.{length}
-use borrow.Author.Tests.{eq-eqb, ne-eqb}
 use Rattle.curve.specs.Curves.{Rising, RightCurve}
-use Rattle.curve.specs.Fit.{bendOf}
-use Rattle.curve.specs.Pieces.{firstSlope, keptOf}
+use Rattle.curve.specs.Codec.{codeOf, kindCurve, curveSaid}
+use Rattle.curve.specs.Keeping.{keptOf}
 use Rattle.curve.specs.declared.Curve.{Curve}
 use Rattle.curve.specs.declared.Curve.the-variants.{None, Straight, FrontLoaded, Delayed}
 use Rattle.curve.specs.declared.Kept.{Kept}
+use Rattle.curve.specs.declared.codec.Code.{Code}
 use Rattle.curve.proofs.Laws.Limits.{straight-limits, front-limits, delayed-limits}
 use Rattle.curve.proofs.Laws.Kept.{kept-latest}
+use Rattle.curve.proofs.Laws.Codec.{said-code}
 use Rattle.tree.specs.declared.Tree.{Tree}
 use Rattle.tree.specs.Rules.{RightTree}
 use Rattle.tree.specs.Trees.{curveOf}
 use Rattle.tree.proofs.Right as right-tree
-use Rattle.rules.specs.Limits.{end, longest, weigh}
+use Rattle.rules.specs.Limits.{mostBytesAccepted, longest, weigh}
 use Rattle.rules.specs.Calls.{Call}
 use Rattle.rules.specs.Clock.{clock}
 use Rattle.rules.specs.Leaves.{pieces}
@@ -30,10 +31,10 @@ use Rattle.rules.proofs.Tests.{by-cond}
 use Rattle.rules.proofs.Trees.{curve-rising}
 use Rattle.rules.proofs.Sent.{clock-most}
 use Rattle.rules.proofs.Leaves.{pieces-in-order}
-use Rattle.state.specs.Table.{at, with}
-use Rattle.state.specs.Columns.{PARENT, SHARE, KIND, RATE, BEND, LAST, CHILD, SIBLING, SENT, FAIR-START, FAIR-SENT, VIRTUAL, MARK, ACTIVE, STEEP-START, STEEP-SENT, FLAT-START, FLAT-SENT}
-use Rattle.state.specs.State.{kindOf, secondRate, keptFor, noKept, ShowsTree, ShowsLeaf, ShowsFair}
-use Rattle.state.specs.Steps.{curveBy, curveIn, keptIn, withKept, NarrowCurve, KeptSoon, LeafOnly}
+use Rattle.state.specs.Table.{at, with, CLASSES, COLUMNS, CELLS}
+use Rattle.state.specs.Columns.{PARENT, SHARE, KIND, FIRST, SECOND, THIRD, CHILD, SIBLING, SENT, FAIR-START, FAIR-SENT, VIRTUAL, MARK, ACTIVE, STEEP-START, STEEP-SENT, FLAT-START, FLAT-SENT, ELIGIBLE, DEADLINE, leafFrom, timesFrom, fairFrom}
+use Rattle.state.specs.State.{keptFor, noKept, ShowsTree, ShowsLeaf, ShowsFair}
+use Rattle.state.specs.Steps.{curveIn, keptIn, withKept, withTimes, NarrowCode, KeptSoon, LeafOnly}
 use Rattle.state.proofs.Cells.{length-with, at-with-same, at-with-class, at-with-column}
 
 -- a store after others
@@ -41,43 +42,20 @@ pub stored : (i f v : ℕ) {a b d : List ℕ} → a ≡ with b i f v → b ≡ d
 stored i f v p q = p ∙ ap (λ (m : List ℕ). with m i f v) q
 
 -- what a packet counts for is far below the limits
-pub weigh-small : (n : ℕ) → n ≤ longest → weigh n ≤ end
+pub weigh-small : (n : ℕ) → n ≤ longest → weigh n ≤ mostBytesAccepted
 unfolding weigh
 weigh-small n h = omega arith
 
--- a curve by its kind
-
-module _ (kind rate bend last : ℕ) where
-  pub by-none : kind ≡ 0 → None ≡ curveBy kind rate bend last
-  unfolding curveBy
-  by-none e = rw (eq-eqb kind 0 e) refl
-
-  pub by-straight : (kind ≡ 0 → ⊥) → kind ≡ 1 → {m : ℕ} → m ≡ rate → Straight m ≡ curveBy kind rate bend last
-  unfolding curveBy
-  by-straight n e p = rw (ne-eqb kind 0 n, eq-eqb kind 1 e) (ap Straight p)
-
-  pub by-front : (kind ≡ 0 → ⊥) → (kind ≡ 1 → ⊥) → kind ≡ 2 → {m d k : ℕ} → m ≡ rate → d ≡ bend → k ≡ last → FrontLoaded m d k ≡ curveBy kind rate bend last
-  unfolding curveBy
-  by-front n o e p q r = rw (ne-eqb kind 0 n, ne-eqb kind 1 o, eq-eqb kind 2 e) (λ i. FrontLoaded (p i) (q i) (r i))
-
-  pub by-delayed : (kind ≡ 0 → ⊥) → (kind ≡ 1 → ⊥) → (kind ≡ 2 → ⊥) → {m d : ℕ} → m ≡ rate → d ≡ bend → Delayed d m ≡ curveBy kind rate bend last
-  unfolding curveBy
-  by-delayed n o e p q = rw (ne-eqb kind 0 n, ne-eqb kind 1 o, ne-eqb kind 2 e) (λ i. Delayed (q i) (p i))
-
-curve-by : (S : Curve) → curveBy (kindOf S) (firstSlope S) (bendOf S) (secondRate S) ≡ S
-unfolding curveBy
-curve-by None = refl
-curve-by (Straight m) = refl
-curve-by (FrontLoaded m₁ d m₂) = refl
-curve-by (Delayed d m) = refl
-
-pub kind-none : (S : Curve) → kindOf S ≡ 0 → hasCurve S ≡ false
+-- a class has no curve exactly where its kind is 0
+pub kind-none : (S : Curve) → codeOf S .kind ≡ 0 → hasCurve S ≡ false
+unfolding codeOf
 kind-none None e = refl
 kind-none (Straight m) e = absurd (omega arith)
 kind-none (FrontLoaded m₁ d m₂) e = absurd (omega arith)
 kind-none (Delayed d m) e = absurd (omega arith)
 
-pub kind-some : (S : Curve) → (kindOf S ≡ 0 → ⊥) → hasCurve S ≡ true
+pub kind-some : (S : Curve) → (codeOf S .kind ≡ 0 → ⊥) → hasCurve S ≡ true
+unfolding codeOf
 kind-some None n = absurd (n refl)
 kind-some (Straight m) n = refl
 kind-some (FrontLoaded m₁ d m₂) n = refl
@@ -86,22 +64,29 @@ kind-some (Delayed d m) n = refl
 -- the columns have the tree's curve
 pub curve-in : {m : List ℕ} {tree : Tree} {i : ℕ} → ShowsTree m tree i → curveIn m i ≡ curveOf tree i
 curve-in {m} {tree} {i} s =
-    let columns : curveIn m i ≡ curveBy (kindOf (curveOf tree i)) (firstSlope (curveOf tree i)) (bendOf (curveOf tree i)) (secondRate (curveOf tree i)) =
-    λ j. curveBy (s .kind j) (s .rate j) (s .bend j) (s .last j)
-    in
-    columns ∙ curve-by (curveOf tree i)
+    let columns : curveIn m i ≡ curveSaid (codeOf (curveOf tree i)) = λ j. kindCurve (s .kind j) (s .first j) (s .second j) (s .third j) in
+    columns ∙ said-code (curveOf tree i)
 
-narrow : (S : Curve) → RightCurve S → (firstSlope S < 2 ^ 32) × (bendOf S < 2 ^ 32) × (secondRate S < 2 ^ 32)
-narrow None r = (omega arith, omega arith, omega arith)
-narrow (Straight m) r = let limits = straight-limits m r in (omega arith, omega arith, omega arith)
-narrow (FrontLoaded m₁ d m₂) r = let limits = front-limits m₁ d m₂ r in (omega arith, omega arith, omega arith)
-narrow (Delayed d m) r = let limits = delayed-limits d m r in (omega arith, omega arith, omega arith)
+-- a code of 32 bits a number
+record Narrow (c : Code) : Type 0 where
+  kind : c .kind < 2 ^ 32
+  first : c .first < 2 ^ 32
+  second : c .second < 2 ^ 32
+  third : c .third < 2 ^ 32
+
+narrow : (S : Curve) → RightCurve S → Narrow (codeOf S)
+unfolding codeOf
+narrow None r = record { kind = omega arith; first = omega arith; second = omega arith; third = omega arith }
+narrow (Straight m) r = let limits = straight-limits m r in record { kind = omega arith; first = omega arith; second = omega arith; third = omega arith }
+narrow (FrontLoaded m₁ d m₂) r =
+    let limits = front-limits m₁ d m₂ r in record { kind = omega arith; first = omega arith; second = omega arith; third = omega arith }
+narrow (Delayed d m) r = let limits = delayed-limits d m r in record { kind = omega arith; first = omega arith; second = omega arith; third = omega arith }
 
 module _ {m : List ℕ} {tree : Tree} (right : RightTree tree) {i : ℕ} (below : i < tree .count) (shows : ShowsTree m tree i) where
-  pub narrow-curve : NarrowCurve m i
-  narrow-curve =
-      let n = narrow (curveOf tree i) (right-tree.curve-right tree right i below) in
-      record { rate = rw (shows .rate) (n .0); bend = rw (shows .bend) (n .1); last = rw (shows .last) (n .2) }
+  pub narrow-code : NarrowCode m i
+  narrow-code =
+      let n = narrow (curveOf tree i) (right-tree.curve-right tree (right .shape) i below) in
+      record { kind = rw (shows .kind) (n .kind); first = rw (shows .first) (n .first); second = rw (shows .second) (n .second); third = rw (shows .third) (n .third) }
 
   pub curve-rises : hasCurve (curveOf tree i) ≡ true → Rising (curveIn m i)
   curve-rises e = rw (curve-in shows) (curve-rising tree (Grown.right right) i below e)
@@ -138,20 +123,20 @@ kept-soon {m} tree cs law {i} e =
     }
 
 -- a class's columns, cell by cell
-pub tree-cells : {m m′ : List ℕ} {tree : Tree} {i : ℕ} → ((f : ℕ) → 1 ≤ f → f < 9 → at m′ i f ≡ at m i f) → ShowsTree m tree i → ShowsTree m′ tree i
+pub tree-cells : {m m′ : List ℕ} {tree : Tree} {i : ℕ} → ((f : ℕ) → 1 ≤ f → f < leafFrom → at m′ i f ≡ at m i f) → ShowsTree m tree i → ShowsTree m′ tree i
 tree-cells same s =
     record {
       parent = same PARENT (omega arith) (omega arith) ∙ s .parent;
       share = same SHARE (omega arith) (omega arith) ∙ s .share;
       kind = same KIND (omega arith) (omega arith) ∙ s .kind;
-      rate = same RATE (omega arith) (omega arith) ∙ s .rate;
-      bend = same BEND (omega arith) (omega arith) ∙ s .bend;
-      last = same LAST (omega arith) (omega arith) ∙ s .last;
+      first = same FIRST (omega arith) (omega arith) ∙ s .first;
+      second = same SECOND (omega arith) (omega arith) ∙ s .second;
+      third = same THIRD (omega arith) (omega arith) ∙ s .third;
       child = same CHILD (omega arith) (omega arith) ∙ s .child;
       sibling = same SIBLING (omega arith) (omega arith) ∙ s .sibling;
     }
 
-pub fair-cells : {m m′ : List ℕ} {tree : Tree} {cs : List Call} {i : ℕ} → ((f : ℕ) → 18 ≤ f → f < 24 → at m′ i f ≡ at m i f)
+pub fair-cells : {m m′ : List ℕ} {tree : Tree} {cs : List Call} {i : ℕ} → ((f : ℕ) → fairFrom ≤ f → f < COLUMNS → at m′ i f ≡ at m i f)
     → ShowsFair m tree cs i → ShowsFair m′ tree cs i
 fair-cells same s =
     record {
@@ -165,10 +150,10 @@ fair-cells same s =
 
 -- stores to the pieces and times of one leaf
 
-pub only-none : (m : List ℕ) (j : ℕ) → length m ≡ 1536 → LeafOnly m m j
+pub only-none : (m : List ℕ) (j : ℕ) → length m ≡ CELLS → LeafOnly m m j
 only-none m j s = record { size = s; columns = λ k f l g. refl; fairs = λ k f l g h. refl; others = λ k f l g n. refl }
 
-pub only-with : (m : List ℕ) (j f v : ℕ) → length m ≡ 1536 → j < 64 → 12 ≤ f → f < 18 → LeafOnly m (with m j f v) j
+pub only-with : (m : List ℕ) (j f v : ℕ) → length m ≡ CELLS → j < CLASSES → timesFrom ≤ f → f < fairFrom → LeafOnly m (with m j f v) j
 only-with m j f v s l low high =
     record {
       size = length-with m j f v ∙ s;
@@ -186,7 +171,7 @@ only-then a b =
       others = λ k f l g n. b .others k f l g n ∙ a .others k f l g n;
     }
 
-module _ (m : List ℕ) (j : ℕ) (k : Kept) (size : length m ≡ 1536) (class : j < 64) where
+module _ (m : List ℕ) (j : ℕ) (k : Kept) (size : length m ≡ CELLS) (class : j < CLASSES) where
   abbrev first : List ℕ
   first = with m j STEEP-START (k .steep .start)
 
@@ -210,7 +195,7 @@ module _ (m : List ℕ) (j : ℕ) (k : Kept) (size : length m ≡ 1536) (class :
   pub kept-with : keptIn (withKept m j k) j ≡ k
   unfolding withKept
   kept-with =
-      let sizes : length second ≡ 1536 = length-with first j STEEP-SENT (k .steep .sent) ∙ length-with m j STEEP-START (k .steep .start) ∙ size in
+      let sizes : length second ≡ CELLS = length-with first j STEEP-SENT (k .steep .sent) ∙ length-with m j STEEP-START (k .steep .start) ∙ size in
       let a : at (with third j FLAT-SENT (k .flat .sent)) j STEEP-START ≡ k .steep .start =
       other third FLAT-SENT STEEP-START (k .flat .sent) (λ e. omega arith) ∙ other second FLAT-START STEEP-START (k .flat .start) (λ e. omega arith)
       ∙ other first STEEP-SENT STEEP-START (k .steep .sent) (λ e. omega arith)
@@ -229,11 +214,11 @@ module _ (m : List ℕ) (j : ℕ) (k : Kept) (size : length m ≡ 1536) (class :
       λ i. record { steep = record { start = a i; sent = b i }; flat = record { start = c i; sent = d i } }
 
 -- the curve and the kept pieces where only other cells were stored to
-pub curve-same : {m m′ : List ℕ} {j : ℕ} → j < 64 → LeafOnly m m′ j → curveIn m′ j ≡ curveIn m j
+pub curve-same : {m m′ : List ℕ} {j : ℕ} → j < CLASSES → LeafOnly m m′ j → curveIn m′ j ≡ curveIn m j
 curve-same {m} {m′} {j} l o = λ i.
-    curveBy (o .columns j KIND l (omega arith) i) (o .columns j RATE l (omega arith) i) (o .columns j BEND l (omega arith) i) (o .columns j LAST l (omega arith) i)
+    kindCurve (o .columns j KIND l (omega arith) i) (o .columns j FIRST l (omega arith) i) (o .columns j SECOND l (omega arith) i) (o .columns j THIRD l (omega arith) i)
 
-pub kept-same : (m : List ℕ) (j f v : ℕ) → j < 64 → 16 ≤ f → keptIn (with m j f v) j ≡ keptIn m j
+pub kept-same : (m : List ℕ) (j f v : ℕ) → j < CLASSES → ELIGIBLE ≤ f → keptIn (with m j f v) j ≡ keptIn m j
 kept-same m j f v l h = λ i.
     record {
       steep =
@@ -246,4 +231,22 @@ kept-same m j f v l h = λ i.
             start = at-with-column m j f v j FLAT-START l l (λ e. omega arith) i;
             sent = at-with-column m j f v j FLAT-SENT l l (λ e. omega arith) i;
           };
+    }
+
+-- the times of a leaf's head, stored
+pub record TimesStored (m m′ : List ℕ) (j e d : ℕ) : Type 0 where
+  pub only : LeafOnly m m′ j
+  pub kept : keptIn m′ j ≡ keptIn m j
+  pub eligible : at m′ j ELIGIBLE ≡ e
+  pub deadline : at m′ j DEADLINE ≡ d
+
+pub times-with : (m : List ℕ) (j e d : ℕ) → length m ≡ CELLS → j < CLASSES → TimesStored m (withTimes m j e d) j e d
+times-with m j e d size class =
+    let mid = with m j ELIGIBLE e in
+    let first = only-with m j ELIGIBLE e size class (omega arith) (omega arith) in
+    record {
+      only = only-then first (only-with mid j DEADLINE d (first .size) class (omega arith) (omega arith));
+      kept = kept-same mid j DEADLINE d class (omega arith) ∙ kept-same m j ELIGIBLE e class (omega arith);
+      eligible = at-with-column mid j DEADLINE d j ELIGIBLE class class (λ q. omega arith) ∙ at-with-same m j ELIGIBLE e size class (omega arith);
+      deadline = at-with-same mid j DEADLINE d (first .size) class (omega arith);
     }

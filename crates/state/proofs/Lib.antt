@@ -2,6 +2,9 @@
 pub mod Cells
 pub mod Resting
 pub mod LeafCells
+pub mod LeafCalls
+pub mod LeafTimes
+pub mod NextTimes
 pub mod Chain
 pub mod Choosing
 pub mod ChoosingDown
@@ -9,3 +12,5 @@ pub mod Zeros
 pub mod One
 pub mod Starting
 pub mod StartingLinks
+pub mod Fresh
+pub mod ShowsOne

@@ -9,39 +9,30 @@ use native.Mathlib.Omega.{arith}
 use lib.ListN.{length}
 use lib.Dec.{eqb}
 use borrow.Author.Tests.{eq-eqb, ne-eqb}
-use Rattle.curve.specs.declared.Curve.{Curve}
-use Rattle.curve.specs.Fit.{bendOf}
-use Rattle.curve.specs.Pieces.{firstSlope}
+use Rattle.curve.specs.declared.codec.Code.{Code}
+use Rattle.curve.specs.Codec.{codeOf}
 use Rattle.tree.specs.declared.Class.{Class}
 use Rattle.tree.specs.declared.Tree.{Tree}
 use Rattle.tree.specs.Trees.{classAt}
 use Rattle.rules.proofs.Tests.{equal-or-not, cond-yes, cond-no}
-use Rattle.state.specs.Table.{at, with}
-use Rattle.state.specs.Columns.{HEADER, PARENT, SHARE, KIND, RATE, BEND, LAST, ELIGIBLE, NEVER}
-use Rattle.state.specs.State.{kindOf, secondRate}
-use Rattle.state.specs.Planting.{withCurve, withClass, plantedCell, PlantedBelow, OnlyHeader}
+use Rattle.state.specs.Table.{at, with, CLASSES, COLUMNS, CELLS}
+use Rattle.state.specs.Columns.{HEADER, PARENT, SHARE, KIND, FIRST, SECOND, THIRD, ELIGIBLE, DEADLINE, NEVER}
+use Rattle.state.specs.Steps.{withTimes}
+use Rattle.state.specs.Planting.{withCode, withClass, plantedCell, PlantedBelow, OnlyHeader}
 use Rattle.state.proofs.Cells.{length-with, at-with-same, at-with-class, at-with-column}
 
--- three columns and then a curve's four are a class
-pub class-stored : (m : List ℕ) (i : ℕ) (c : Class) (S : Curve) {m₁ m₂ : List ℕ} → c .curve ≡ S
-    → m₁ ≡ with (with (with m i PARENT (c .parent)) i SHARE (c .share)) i ELIGIBLE NEVER
-    → m₂ ≡ withCurve m₁ i (kindOf S) (firstSlope S) (bendOf S) (secondRate S)
-    → m₂ ≡ withClass m i c
+-- parent, share, times and then the curve's code are a class
+pub class-stored : (m : List ℕ) (i : ℕ) (c : Class) {m₁ m₂ m₃ m₄ : List ℕ} {code : Code} → m₁ ≡ with m i PARENT (c .parent) → m₂ ≡ with m₁ i SHARE (c .share)
+    → m₃ ≡ withTimes m₂ i NEVER 0 → code ≡ codeOf (c .curve) → m₄ ≡ withCode m₃ i code → m₄ ≡ withClass m i c
 unfolding withClass
-class-stored m i c S e p q =
-    q
-    ∙ ap (λ (n : List ℕ). withCurve n i (kindOf S) (firstSlope S) (bendOf S) (secondRate S)) p
-    ∙ ap
-    (λ (T : Curve).
-    withCurve (with (with (with m i PARENT (c .parent)) i SHARE (c .share)) i ELIGIBLE NEVER) i (kindOf T) (firstSlope T) (bendOf T) (secondRate T))
-    (sym e)
+class-stored m i c p q r s u = rw (u, r, q, p, s) refl
 
 -- a table of which the cell of class i in column f has x
 record Cell (m : List ℕ) (i f x : ℕ) : Type 0 where
-  size : length m ≡ 1536
+  size : length m ≡ CELLS
   held : at m i f ≡ x
 
-cell-with : {m : List ℕ} {i f x : ℕ} (g v : ℕ) → i < 64 → g < 24 → Cell m i f x → Cell (with m i g v) i f (cond (eqb f g) v x)
+cell-with : {m : List ℕ} {i f x : ℕ} (g v : ℕ) → i < CLASSES → g < COLUMNS → Cell m i f x → Cell (with m i g v) i f (cond (eqb f g) v x)
 cell-with {m} {i} {f} {x} g v l k c =
     record {
       size = length-with m i g v ∙ c .size;
@@ -54,42 +45,45 @@ cell-with {m} {i} {f} {x} g v l k c =
     }
 
 pub length-class : (m : List ℕ) (i : ℕ) (c : Class) → length (withClass m i c) ≡ length m
-unfolding withClass withCurve
+unfolding withClass withCode
 length-class m i c = simp length-with
 
 -- the row that is stored to
-pub class-row : (m : List ℕ) (i : ℕ) (c : Class) (f : ℕ) → length m ≡ 1536 → i < 64 → at m i f ≡ 0 → at (withClass m i c) i f ≡ plantedCell c f
-unfolding withClass withCurve plantedCell
+pub class-row : (m : List ℕ) (i : ℕ) (c : Class) (f : ℕ) → length m ≡ CELLS → i < CLASSES → at m i f ≡ 0 → at (withClass m i c) i f ≡ plantedCell c f
+unfolding withClass withCode plantedCell
 class-row m i c f s l z =
-    cell-with LAST _ l (omega arith)
-    (cell-with BEND _ l (omega arith)
-    (cell-with RATE _ l (omega arith)
+    cell-with THIRD _ l (omega arith)
+    (cell-with SECOND _ l (omega arith)
+    (cell-with FIRST _ l (omega arith)
     (cell-with KIND _ l (omega arith)
+    (cell-with DEADLINE 0 l (omega arith)
     (cell-with ELIGIBLE NEVER l (omega arith)
     (cell-with SHARE _ l (omega arith)
     (cell-with PARENT _ l (omega arith)
-    (record { size = s; held = z }))))))) .held
+    (record { size = s; held = z })))))))) .held
 
 -- another row
-pub class-other : (m : List ℕ) (i : ℕ) (c : Class) (k f : ℕ) → i < 64 → k < 64 → (k ≡ i → ⊥) → at (withClass m i c) k f ≡ at m k f
-unfolding withClass withCurve
+pub class-other : (m : List ℕ) (i : ℕ) (c : Class) (k f : ℕ) → i < CLASSES → k < CLASSES → (k ≡ i → ⊥) → at (withClass m i c) k f ≡ at m k f
+unfolding withClass withCode
 class-other m i c k f l h n =
-    at-with-class _ i LAST _ k f l h n
-    ∙ at-with-class _ i BEND _ k f l h n
-    ∙ at-with-class _ i RATE _ k f l h n
+    at-with-class _ i THIRD _ k f l h n
+    ∙ at-with-class _ i SECOND _ k f l h n
+    ∙ at-with-class _ i FIRST _ k f l h n
     ∙ at-with-class _ i KIND _ k f l h n
+    ∙ at-with-class _ i DEADLINE _ k f l h n
     ∙ at-with-class _ i ELIGIBLE _ k f l h n
     ∙ at-with-class _ i SHARE _ k f l h n
     ∙ at-with-class _ i PARENT _ k f l h n
 
 -- the header
-pub class-header : (m : List ℕ) (i : ℕ) (c : Class) (k : ℕ) → i < 64 → k < 64 → at (withClass m i c) k HEADER ≡ at m k HEADER
-unfolding withClass withCurve
+pub class-header : (m : List ℕ) (i : ℕ) (c : Class) (k : ℕ) → i < CLASSES → k < CLASSES → at (withClass m i c) k HEADER ≡ at m k HEADER
+unfolding withClass withCode
 class-header m i c k l h =
-    at-with-column _ i LAST _ k HEADER l h (λ e. omega arith)
-    ∙ at-with-column _ i BEND _ k HEADER l h (λ e. omega arith)
-    ∙ at-with-column _ i RATE _ k HEADER l h (λ e. omega arith)
+    at-with-column _ i THIRD _ k HEADER l h (λ e. omega arith)
+    ∙ at-with-column _ i SECOND _ k HEADER l h (λ e. omega arith)
+    ∙ at-with-column _ i FIRST _ k HEADER l h (λ e. omega arith)
     ∙ at-with-column _ i KIND _ k HEADER l h (λ e. omega arith)
+    ∙ at-with-column _ i DEADLINE _ k HEADER l h (λ e. omega arith)
     ∙ at-with-column _ i ELIGIBLE _ k HEADER l h (λ e. omega arith)
     ∙ at-with-column _ i SHARE _ k HEADER l h (λ e. omega arith)
     ∙ at-with-column _ i PARENT _ k HEADER l h (λ e. omega arith)
@@ -103,7 +97,7 @@ planted-none m tree o =
       others = λ k f n l a b. o .rows k f l a b;
     }
 
-pub planted-more : {m m′ m″ : List ℕ} {tree : Tree} {i : ℕ} → i < 64 → PlantedBelow m m′ tree i → m″ ≡ withClass m′ i (classAt tree i)
+pub planted-more : {m m′ m″ : List ℕ} {tree : Tree} {i : ℕ} → i < CLASSES → PlantedBelow m m′ tree i → m″ ≡ withClass m′ i (classAt tree i)
     → PlantedBelow m m″ tree (i + 1)
 planted-more {m} {m′} {m″} {tree} {i} l p e =
     let c = classAt tree i in

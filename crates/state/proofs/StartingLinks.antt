@@ -11,7 +11,7 @@ use Rattle.tree.specs.declared.Tree.{Tree}
 use Rattle.tree.specs.Trees.{parentOf, isChild}
 use Rattle.rules.proofs.Tests.{equal-or-not, is-false, cond-yes, cond-no}
 use Rattle.rules.proofs.Trees.{child-some, child-parent, a-child}
-use Rattle.state.specs.Table.{at, with}
+use Rattle.state.specs.Table.{at, with, CLASSES, COLUMNS, CELLS}
 use Rattle.state.specs.Columns.{PARENT, CHILD, SIBLING}
 use Rattle.state.specs.State.{childFrom, nextSibling}
 use Rattle.state.specs.Planting.{Linkable, Linked}
@@ -19,11 +19,11 @@ use Rattle.state.proofs.Cells.{length-with, at-with-same, at-with-class
 
 -- the classes from i on are linked
 pub record Linking (m m′ : List ℕ) (tree : Tree) (i : ℕ) : Type 0 where
-  pub size : length m′ ≡ 1536
+  pub size : length m′ ≡ CELLS
   pub child : (p : ℕ) → p < tree .count → at m′ p CHILD ≡ childFrom tree p i (tree .count - i)
   pub sibling : (k : ℕ) → i ≤ k → k < tree .count → at m′ k SIBLING ≡ nextSibling tree k
-  pub others : (k f : ℕ) → k < 64 → f < 24 → (f ≡ CHILD → ⊥) → (f ≡ SIBLING → ⊥) → at m′ k f ≡ at m k f
-  pub blank : (k f : ℕ) → tree .count ≤ k → k < 64 → f < 24 → at m′ k f ≡ at m k f
+  pub others : (k f : ℕ) → k < CLASSES → f < COLUMNS → (f ≡ CHILD → ⊥) → (f ≡ SIBLING → ⊥) → at m′ k f ≡ at m k f
+  pub blank : (k f : ℕ) → tree .count ≤ k → k < CLASSES → f < COLUMNS → at m′ k f ≡ at m k f
 
 -- the lowest child from j on is j itself or the lowest after it
 child-step : (tree : Tree) (p j : ℕ) → j < tree .count
@@ -62,11 +62,11 @@ module _ {m m₁ : List ℕ} {tree : Tree} (s : Linkable m tree) (j : ℕ) (abov
       let p = parentOf tree j in
       let lower = s .lower j above class in
       let few = s .few in
-      let small : j < 64 = omega arith in
-      let room : p < 64 = omega arith in
+      let small : j < CLASSES = omega arith in
+      let room : p < CLASSES = omega arith in
       let next = at m₁ p CHILD in
       let m₂ = with m₁ j SIBLING next in
-      let size₂ : length m₂ ≡ 1536 = length-with m₁ j SIBLING next ∙ g .size in
+      let size₂ : length m₂ ≡ CELLS = length-with m₁ j SIBLING next ∙ g .size in
       record {
         size = length-with m₂ p CHILD j ∙ size₂;
         child =

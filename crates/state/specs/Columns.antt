@@ -2,9 +2,12 @@
 -- Assumes nothing.
 use Prim.Native.Nat.{ℕ, _^_, _-_}
 
--- the header's column, and its cells
+-- the header's cells, how many they are, and their column
 abbrev pub HEADER : ℕ
 HEADER = 0
+
+abbrev pub headerCells : ℕ
+headerCells = 4
 
 abbrev pub CLOCK : ℕ
 CLOCK = 0
@@ -12,13 +15,13 @@ CLOCK = 0
 abbrev pub STAMP : ℕ
 STAMP = 1
 
-abbrev pub BYTES : ℕ
-BYTES = 2
+abbrev pub ACCEPTED : ℕ
+ACCEPTED = 2
 
 abbrev pub COUNT : ℕ
 COUNT = 3
 
--- the tree
+-- the tree: parent, share, the code of the curve, links
 abbrev pub PARENT : ℕ
 PARENT = 1
 
@@ -28,14 +31,14 @@ SHARE = 2
 abbrev pub KIND : ℕ
 KIND = 3
 
-abbrev pub RATE : ℕ
-RATE = 4
+abbrev pub FIRST : ℕ
+FIRST = 4
 
-abbrev pub BEND : ℕ
-BEND = 5
+abbrev pub SECOND : ℕ
+SECOND = 5
 
-abbrev pub LAST : ℕ
-LAST = 6
+abbrev pub THIRD : ℕ
+THIRD = 6
 
 abbrev pub CHILD : ℕ
 CHILD = 7
@@ -43,15 +46,15 @@ CHILD = 7
 abbrev pub SIBLING : ℕ
 SIBLING = 8
 
--- a leaf
-abbrev pub CAME : ℕ
-CAME = 9
+-- a leaf: numbers of its packets, bytes by the real-time rule; its kept pieces, and the times of its head
+abbrev pub NEXT-NUMBER : ℕ
+NEXT-NUMBER = 9
 
-abbrev pub LEFT : ℕ
-LEFT = 10
+abbrev pub HEAD-NUMBER : ℕ
+HEAD-NUMBER = 10
 
-abbrev pub BYTES-RT : ℕ
-BYTES-RT = 11
+abbrev pub SENT-REAL-TIME : ℕ
+SENT-REAL-TIME = 11
 
 abbrev pub STEEP-START : ℕ
 STEEP-START = 12
@@ -90,6 +93,20 @@ MARK = 22
 abbrev pub ACTIVE : ℕ
 ACTIVE = 23
 
+-- where the columns of a leaf begin, those of its pieces and times, and those of a class among its parent's children
+abbrev pub leafFrom : ℕ
+leafFrom = NEXT-NUMBER
+
+abbrev pub timesFrom : ℕ
+timesFrom = STEEP-START
+
+abbrev pub fairFrom : ℕ
+fairFrom = SENT
+
+-- the largest number that a cell holds
+abbrev pub LARGEST : ℕ
+LARGEST = 2 ^ 64 - 1
+
 -- the eligible time of a leaf that has none: later than any clock
 abbrev pub NEVER : ℕ
-NEVER = 2 ^ 64 - 1
+NEVER = LARGEST

@@ -1,16 +1,14 @@
 -- What the two lent arrays hold for a history: every cell, so that one history allows one content.
 -- Assumes nothing.
-use Prim.Native.Nat.{ℕ, zero, suc, _+_, _-_, _*_, _%_, _≤_, _<_}
+use Prim.Native.Nat.{ℕ, zero, suc, _+_, _-_, _≤_, _<_}
 use mathlib.Core.Path.{_≡_}
 use mathlib.Core.Bool.{Bool, true, false, cond, _&&_}
 use mathlib.Core.List.{List, []}
 use lib.ListN.{length, getD}
-use Rattle.curve.specs.declared.Curve.{Curve}
-use Rattle.curve.specs.declared.Curve.the-variants.{None, Straight, FrontLoaded, Delayed}
 use Rattle.curve.specs.declared.Piece.{Piece}
 use Rattle.curve.specs.declared.Kept.{Kept}
-use Rattle.curve.specs.Fit.{bendOf}
-use Rattle.curve.specs.Pieces.{keptOf, lowest, firstSlope}
+use Rattle.curve.specs.Codec.{codeOf}
+use Rattle.curve.specs.Keeping.{keptOf, lowest}
 use Rattle.tree.specs.declared.Tree.{Tree}
 use Rattle.tree.specs.Trees.{parentOf, shareOf, curveOf, isChild, isLeaf}
 use Rattle.rules.specs.Calls.{Call, History}
@@ -21,21 +19,8 @@ use Rattle.rules.specs.Classes.{sent, active}
 use Rattle.rules.specs.Fair.{mark, fairPieces, virtualTimeOf}
 use Rattle.rules.specs.Choice.{hasCurve}
 use Rattle.rules.specs.Lawful.{Lawful}
-use Rattle.state.specs.Table.{at}
-use Rattle.state.specs.Columns.{HEADER, CLOCK, STAMP, BYTES, COUNT, PARENT, SHARE, KIND, RATE, BEND, LAST, CHILD, SIBLING, CAME, LEFT, BYTES-RT, STEEP-START, STEEP-SENT, FLAT-START, FLAT-SENT, ELIGIBLE, DEADLINE, SENT, FAIR-START, FAIR-SENT, VIRTUAL, MARK, ACTIVE, NEVER}
-
--- a curve's kind as the file has it, and its last rate where it has two
-abbrev pub kindOf : Curve → ℕ
-kindOf None = 0
-kindOf (Straight m) = 1
-kindOf (FrontLoaded m₁ d m₂) = 2
-kindOf (Delayed d m) = 3
-
-abbrev pub secondRate : Curve → ℕ
-secondRate None = 0
-secondRate (Straight m) = 0
-secondRate (FrontLoaded m₁ d m₂) = m₂
-secondRate (Delayed d m) = 0
+use Rattle.state.specs.Table.{at, headerAt, CLASSES, COLUMNS, CELLS, SLOTS, PLACES, slotOf}
+use Rattle.state.specs.Columns.{headerCells, CLOCK, STAMP, ACCEPTED, COUNT, PARENT, SHARE, KIND, FIRST, SECOND, THIRD, CHILD, SIBLING, NEXT-NUMBER, HEAD-NUMBER, SENT-REAL-TIME, STEEP-START, STEEP-SENT, FLAT-START, FLAT-SENT, ELIGIBLE, DEADLINE, SENT, FAIR-START, FAIR-SENT, VIRTUAL, MARK, ACTIVE, NEVER}
 
 -- the lowest child of p among the n classes from i on, or 0
 unfoldable pub childFrom : Tree → ℕ → ℕ → ℕ → ℕ
@@ -49,14 +34,14 @@ firstChild tree i = childFrom tree i 0 (tree .count)
 abbrev pub nextSibling : Tree → ℕ → ℕ
 nextSibling tree i = childFrom tree (parentOf tree i) (suc i) (tree .count - suc i)
 
--- the tree's columns
+-- the tree's columns: the curve by its code
 pub record ShowsTree (m : List ℕ) (tree : Tree) (i : ℕ) : Type 0 where
   pub parent : at m i PARENT ≡ parentOf tree i
   pub share : at m i SHARE ≡ shareOf tree i
-  pub kind : at m i KIND ≡ kindOf (curveOf tree i)
-  pub rate : at m i RATE ≡ firstSlope (curveOf tree i)
-  pub bend : at m i BEND ≡ bendOf (curveOf tree i)
-  pub last : at m i LAST ≡ secondRate (curveOf tree i)
+  pub kind : at m i KIND ≡ codeOf (curveOf tree i) .kind
+  pub first : at m i FIRST ≡ codeOf (curveOf tree i) .first
+  pub second : at m i SECOND ≡ codeOf (curveOf tree i) .second
+  pub third : at m i THIRD ≡ codeOf (curveOf tree i) .third
   pub child : at m i CHILD ≡ firstChild tree i
   pub sibling : at m i SIBLING ≡ nextSibling tree i
 
@@ -73,9 +58,9 @@ hasTimes tree cs i = waits cs i && hasCurve (curveOf tree i)
 
 -- the columns of a class as a leaf
 pub record ShowsLeaf (m : List ℕ) (tree : Tree) (cs : List Call) (i : ℕ) : Type 0 where
-  pub came : at m i CAME ≡ nextNumber cs i
-  pub left : at m i LEFT ≡ headNumber cs i
-  pub bytes : at m i BYTES-RT ≡ sentRealTime cs i
+  pub nextNumber : at m i NEXT-NUMBER ≡ nextNumber cs i
+  pub headNumber : at m i HEAD-NUMBER ≡ headNumber cs i
+  pub sentRealTime : at m i SENT-REAL-TIME ≡ sentRealTime cs i
   pub steepStart : at m i STEEP-START ≡ keptFor tree cs i .steep .start
   pub steepSent : at m i STEEP-SENT ≡ keptFor tree cs i .steep .sent
   pub flatStart : at m i FLAT-START ≡ keptFor tree cs i .flat .start
@@ -109,27 +94,27 @@ pub record ShowsFair (m : List ℕ) (tree : Tree) (cs : List Call) (i : ℕ) : T
 
 -- the header
 pub record ShowsHeader (m : List ℕ) (h : History) : Type 0 where
-  pub clock : at m CLOCK HEADER ≡ clock (h .calls)
-  pub stamp : at m STAMP HEADER ≡ lastStamp (h .first) (h .calls)
-  pub bytes : at m BYTES HEADER ≡ accepted (h .calls)
-  pub count : at m COUNT HEADER ≡ h .tree .count
-  pub rest : (i : ℕ) → 4 ≤ i → i < 64 → at m i HEADER ≡ 0
+  pub clock : headerAt m CLOCK ≡ clock (h .calls)
+  pub stamp : headerAt m STAMP ≡ lastStamp (h .first) (h .calls)
+  pub accepted : headerAt m ACCEPTED ≡ accepted (h .calls)
+  pub count : headerAt m COUNT ≡ h .tree .count
+  pub rest : (i : ℕ) → headerCells ≤ i → i < CLASSES → headerAt m i ≡ 0
 
--- "Room freed by a departure is used by later arrivals": packet p of class i lies in slot p mod 64, and a slot in which none waits has 0
+-- "Room freed by a departure is used by later arrivals": packet p of class i lies in slot p mod SLOTS, and a slot in which none waits has 0
 pub record ShowsSlots (l : List ℕ) (cs : List Call) (i : ℕ) : Type 0 where
-  pub waiting : (k : ℕ) → k < length (queue cs i) → getD l (64 * i + (headNumber cs i + k) % 64) 0 ≡ getD (queue cs i) k 0
-  pub free : (k : ℕ) → length (queue cs i) ≤ k → k < 64 → getD l (64 * i + (headNumber cs i + k) % 64) 0 ≡ 0
+  pub waiting : (k : ℕ) → k < length (queue cs i) → getD l (slotOf i (headNumber cs i + k)) 0 ≡ getD (queue cs i) k 0
+  pub free : (k : ℕ) → length (queue cs i) ≤ k → k < SLOTS → getD l (slotOf i (headNumber cs i + k)) 0 ≡ 0
 
 -- the two arrays hold exactly what the history determines
 pub record Shows (m l : List ℕ) (h : History) : Type 0 where
-  pub size : length m ≡ 1536
-  pub room : length l ≡ 4096
+  pub size : length m ≡ CELLS
+  pub room : length l ≡ PLACES
   pub header : ShowsHeader m h
   pub trees : (i : ℕ) → i < h .tree .count → ShowsTree m (h .tree) i
   pub leaves : (i : ℕ) → i < h .tree .count → ShowsLeaf m (h .tree) (h .calls) i
   pub fairs : (i : ℕ) → i < h .tree .count → ShowsFair m (h .tree) (h .calls) i
-  pub blank : (i f : ℕ) → h .tree .count ≤ i → i < 64 → 1 ≤ f → f < 24 → at m i f ≡ 0
-  pub slots : (i : ℕ) → i < 64 → ShowsSlots l (h .calls) i
+  pub blank : (i f : ℕ) → h .tree .count ≤ i → i < CLASSES → 1 ≤ f → f < COLUMNS → at m i f ≡ 0
+  pub slots : (i : ℕ) → i < CLASSES → ShowsSlots l (h .calls) i
 
 -- "A state comes only from start or an earlier call; that is the single premise a scheduler call may have"
 pub record Reached (m l : List ℕ) : Type 0 where

@@ -1,67 +1,66 @@
 // A started state: every cell of the two arrays, whatever they held.
-use crate::table::BEND;
+use crate::leaf::put_times;
+use crate::table::CELLS;
 use crate::table::CHILD;
-use crate::table::ELIGIBLE;
+use crate::table::FIRST;
 use crate::table::KIND;
-use crate::table::LAST;
+use crate::table::Lengths;
 use crate::table::NEVER;
 use crate::table::PARENT;
-use crate::table::RATE;
+use crate::table::PLACES;
+use crate::table::SECOND;
 use crate::table::SHARE;
 use crate::table::SIBLING;
+use crate::table::THIRD;
+use crate::table::Words;
 use crate::table::get;
 use crate::table::put;
-use curve::Curve;
+use curve::codec::Code;
+use curve::codec::encode;
 use tree::Class;
 use tree::Tree;
 ghost use mathlib.Core.Path.{_≡_};
 ghost use Prim.Native.Nat.{_≤_, _<_};
-ghost use Rattle.state.specs.Planting.{AllZero, withCurve, withClass, PlantedBelow, OnlyHeader, Linked, Linkable};
+ghost use Rattle.state.specs.Table as table;
+ghost use Rattle.state.specs.Planting.{AllZero, withCode, withClass, PlantedBelow, OnlyHeader, Linked, Linkable};
 
-pub fn clear_words(words: &mut [u64; 1536])
-    ensures { λ r. ⌜ AllZero (now (words .exit)) 1536 ⌝ }
+pub fn clear_words(words: &mut Words)
+    ensures { λ r. ⌜ AllZero (now (words .exit)) table.CELLS ⌝ }
 {
-    *words = [0u64; 1536];
+    *words = [0u64; CELLS];
 }
 
-pub fn clear_lengths(lengths: &mut [u16; 4096])
-    ensures { λ r. ⌜ AllZero (now (lengths .exit)) 4096 ⌝ }
+pub fn clear_lengths(lengths: &mut Lengths)
+    ensures { λ r. ⌜ AllZero (now (lengths .exit)) table.PLACES ⌝ }
 {
-    *lengths = [0u16; 4096];
+    *lengths = [0u16; PLACES];
 }
 
-fn plant_curve(words: &mut [u64; 1536], class: usize, kind: u64, rate: u32, bend: u32, last: u32)
-    requires { ⌜ class < 64 ⌝ }
-    ensures { λ r. ⌜ now (words .exit) ≡ withCurve (now (words .entry)) class kind rate bend last ⌝ }
+fn plant_code(words: &mut Words, class: usize, code: Code)
+    requires { ⌜ class < table.CLASSES ⌝ }
+    ensures { λ r. ⌜ now (words .exit) ≡ withCode (now (words .entry)) class code ⌝ }
 {
-    put(words, class, KIND, kind);
-    put(words, class, RATE, rate as u64);
-    put(words, class, BEND, bend as u64);
-    put(words, class, LAST, last as u64);
+    put(words, class, KIND, code.kind as u64);
+    put(words, class, FIRST, code.first as u64);
+    put(words, class, SECOND, code.second as u64);
+    put(words, class, THIRD, code.third as u64);
 }
 
 // One class's columns.
-fn plant_class(words: &mut [u64; 1536], number: usize, class: Class)
-    requires { ⌜ number < 64 ⌝ }
+fn plant_class(words: &mut Words, number: usize, class: Class)
+    requires { ⌜ number < table.CLASSES ⌝ }
     ensures { λ r. ⌜ now (words .exit) ≡ withClass (now (words .entry)) number class ⌝ }
 {
     put(words, number, PARENT, class.parent as u64);
     put(words, number, SHARE, class.share as u64);
-    put(words, number, ELIGIBLE, NEVER);
+    put_times(words, number, NEVER, 0);
     let curve = class.curve;
-    match curve {
-        Curve::None => plant_curve(words, number, 0, 0, 0, 0),
-        Curve::Straight { rate } => plant_curve(words, number, 1, rate, 0, 0),
-        Curve::FrontLoaded { first, bend, last } => {
-            plant_curve(words, number, 2, first, bend, last)
-        }
-        Curve::Delayed { bend, rate } => plant_curve(words, number, 3, rate, bend, 0),
-    }
+    plant_code(words, number, encode(curve));
 }
 
 // The tree's classes.
-pub fn plant(words: &mut [u64; 1536], tree: Tree)
-    requires { ⌜ OnlyHeader (now words) × (tree .count ≤ 64) ⌝ }
+pub fn plant(words: &mut Words, tree: Tree)
+    requires { ⌜ OnlyHeader (now words) × (tree .count ≤ table.CLASSES) ⌝ }
     ensures { λ r. ⌜ PlantedBelow (now (words .entry)) (now (words .exit)) tree (tree .count) ⌝ }
 {
     let count = tree.count as usize;
@@ -72,7 +71,7 @@ pub fn plant(words: &mut [u64; 1536], tree: Tree)
 
 // Each class's first child and next sibling: from the last class down, each goes before its parent's
 // children so far. The root names itself as its parent: the next child of its parent is its own first.
-pub fn link(words: &mut [u64; 1536], tree: Tree)
+pub fn link(words: &mut Words, tree: Tree)
     requires { ⌜ Linkable (now words) tree ⌝ }
     ensures { λ r. ⌜ Linked (now (words .entry)) (now (words .exit)) tree ⌝ }
 {

@@ -1,4 +1,4 @@
--- The list of a tree's curves: 64 of them, each class's own below the count and none above it.
+-- The list of a tree's curves: as many as the most classes, each class's own below the count and none above it.
 -- Assumes nothing.
 use Prim.Native.Nat.{ℕ, zero, suc, _+_, _≤_, _<_}
 use mathlib.Core.Path.{_≡_, refl, sym, ap, _∙_}
@@ -7,7 +7,7 @@ use native.Mathlib.Omega.{arith}
 use lib.ListN.{length, getD}
 use borrow.Author.Tests.{lt-ltb, le-ltb}
 use Rattle.curve.specs.declared.Curve.the-variants.{None}
-use Rattle.tree.specs.Trees.{curveOf, curveBelow, curvesFrom, curvesOf}
+use Rattle.tree.specs.Trees.{mostClasses, curveOf, curveBelow, curvesFrom, curvesOf}
 use Rattle.tree.specs.declared.Tree.{Tree}
 
 module _ (t : Tree) where
@@ -30,10 +30,10 @@ module _ (t : Tree) where
   at-from i (suc n) zero l = ap (curveBelow t) (sym (add-zero i))
   at-from i (suc n) (suc k) l = at-from (suc i) n k (le-of-suc-le-suc l) ∙ ap (curveBelow t) (omega arith)
 
-  pub curves-length : length (curvesOf t) ≡ 64
+  pub curves-length : length (curvesOf t) ≡ mostClasses
   unfolding curvesOf
-  curves-length = length-from 0 64
+  curves-length = length-from 0 mostClasses
 
-  pub curves-at : (i : ℕ) → i < 64 → getD (curvesOf t) i None ≡ curveBelow t i
+  pub curves-at : (i : ℕ) → i < mostClasses → getD (curvesOf t) i None ≡ curveBelow t i
   unfolding curvesOf
-  curves-at i l = at-from 0 64 i l ∙ ap (curveBelow t) (zero-add i)
+  curves-at i l = at-from 0 mostClasses i l ∙ ap (curveBelow t) (zero-add i)

@@ -1,20 +1,21 @@
--- A right tree, for the layers above: what each of its classes is like.
+-- A tree of right shape, for the layers above: what each of its classes is like, whatever its curves add up to.
 -- Assumes nothing.
 use Prim.Native.Nat.{ℕ, zero, suc, _≤_, _<_}
 use mathlib.Core.Bool.{true, false}
 use mathlib.Core.Path.{_≡_, refl, ap, _∙_}
 use native.Mathlib.Omega.{arith}
 use Rattle.curve.specs.Curves.{RightRate, RightCurve, Rising}
+use Rattle.curve.specs.Fit.{CurvesFit}
 use Rattle.curve.specs.declared.Curve.the-variants.{None}
 use Rattle.curve.proofs.Laws.Limits.{none-right, right-rising}
-use Rattle.tree.specs.Rules.{RightRoot, RightOther, RightTree}
-use Rattle.tree.specs.Trees.{classAt, parentOf, shareOf, curveOf, hasChild, isLeaf, depth}
+use Rattle.tree.specs.Rules.{RightRoot, RightOther, RightShape, RightTree}
+use Rattle.tree.specs.Trees.{deepest, classAt, parentOf, shareOf, curveOf, hasChild, isLeaf, depth, curvesOf}
 use Rattle.tree.specs.declared.Tree.{Tree}
 use Rattle.tree.proofs.Children.{ChildOf, child-has, childless-leaf, is-false}
 use Rattle.tree.proofs.Classes.{right-root, right-other}
 use Rattle.tree.proofs.Depths.{depth-up}
 
-module _ (t : Tree) (right : RightTree t) where
+module _ (t : Tree) (right : RightShape t) where
   pub root : RightRoot (classAt t 0)
   root = right-root (classAt t 0) 0 refl (right .bodies 0 (omega arith))
 
@@ -47,14 +48,14 @@ module _ (t : Tree) (right : RightTree t) where
   pub curve-leaf : (i : ℕ) → i < t .count → (curveOf t i ≡ None → ⊥) → isLeaf t i ≡ true
   curve-leaf i class some = childless-leaf t i class (curve-childless i class some)
 
-  -- a child lies one deeper than its parent, and "at most 8" deep
+  -- a child lies one deeper than its parent, and at most as deep as a class may lie
   pub deeper : (i : ℕ) → 0 < i → i < t .count → depth t i ≡ suc (depth t (parentOf t i))
   deeper i above class = depth-up t (t .count) parent-lower i above class
 
   pub child-deeper : (p i : ℕ) → ChildOf t p i → depth t i ≡ suc (depth t p)
   child-deeper p i child = deeper i (child .above) (child .class) ∙ ap (λ (k : ℕ). suc (depth t k)) (child .parent)
 
-  pub parent-shallow : (p i : ℕ) → ChildOf t p i → depth t p ≤ 7
+  pub parent-shallow : (p i : ℕ) → ChildOf t p i → depth t p < deepest
   parent-shallow p i child = let at = child-deeper p i child in let most = right .depths i (child .class) in omega arith
 
   -- the root has a child: it is no leaf

@@ -6,7 +6,7 @@ use mathlib.Core.Logic.{⊎-elim}
 use native.Mathlib.Nat.{le-antisymm}
 use native.Mathlib.Omega.{arith}
 use Rattle.curve.proofs.Laws.Order.{le-or-lt}
-use Rattle.tree.specs.Rules.{EveryClass, LowestFault, Rule, broken, kept, BrokenWhole}
+use Rattle.tree.specs.Rules.{EveryClass, LowestFault, Checking, broken, kept, BrokenWhole}
 use Rattle.tree.specs.declared.Verdict.{Verdict}
 use Rattle.tree.specs.declared.Verdict.the-variants.{Refused}
 use Rattle.tree.proofs.Numbers.{refusal-by-number}
@@ -34,7 +34,7 @@ whole-none good a = a .fault good
 
 module _ {number : ℕ} {Kept : Type 0} {BrokenAt : ℕ → Type 0} {Next : Verdict → Type 0} where
   pub rule-one : ((i : ℕ) → Kept → BrokenAt i → ⊥) → ((i j : ℕ) → BrokenAt i → BrokenAt j → i ≡ j) → AtMostOne Next →
-      AtMostOne (Rule number Kept BrokenAt Next)
+      AtMostOne (Checking number Kept BrokenAt Next)
   rule-one apart one next v w (broken {why = a} {i = i} e b) (broken {why = a′} {i = i′} e′ b′) = ap₂ Refused (refusal-by-number a a′ (e ∙ sym e′)) (one i i′ b b′)
   rule-one apart one next v w (broken {i = i} e b) (kept k n) = absurd (apart i k b)
   rule-one apart one next v w (kept k n) (broken {i = i} e b) = absurd (apart i k b)
@@ -42,10 +42,10 @@ module _ {number : ℕ} {Kept : Type 0} {BrokenAt : ℕ → Type 0} {Next : Verd
 
 -- the same facts give the same verdict; what is kept may help to show that the checks after it agree
 module _ {number : ℕ} {Kept Kept′ : Type 0} {BrokenAt BrokenAt′ : ℕ → Type 0} {Next Next′ : Verdict → Type 0} where
-  pub rule-map : (Kept → Kept′) → ((i : ℕ) → BrokenAt i → BrokenAt′ i) → (Kept → (v : Verdict) → Next v → Next′ v) →
-      (v : Verdict) → Rule number Kept BrokenAt Next v → Rule number Kept′ BrokenAt′ Next′ v
-  rule-map keep brk next v (broken {i = i} e b) = broken e (brk i b)
-  rule-map keep brk next v (kept k n) = kept (keep k) (next k v n)
+  pub rule-map : {v : Verdict} → (Kept → Kept′) → ((i : ℕ) → BrokenAt i → BrokenAt′ i) → (Kept → Next v → Next′ v) →
+      Checking number Kept BrokenAt Next v → Checking number Kept′ BrokenAt′ Next′ v
+  rule-map keep brk next (broken {i = i} e b) = broken e (brk i b)
+  rule-map keep brk next (kept k n) = kept (keep k) (next k n)
 
 -- two rules that hold of the same classes below n
 pub record SameBelow (Good Good′ : ℕ → Type 0) (n : ℕ) : Type 0 where

@@ -10,8 +10,8 @@ use native.Mathlib.Omega.{arith}
 use lib.Dec.{ltb}
 use Rattle.curve.specs.Fit.{CurvesFit}
 use Rattle.curve.proofs.Laws.Order.{le-or-lt}
-use Rattle.tree.specs.Rules.{RightClass, RightBody, RightDepth, RightPlace, RightTree, EveryClass, Checked, Judged}
-use Rattle.tree.specs.Trees.{parentOf, shareOf, curveOf, isChild, childBelow, hasChild, isLeaf, stepsUp, depth, curveBelow, curvesFrom, curvesOf, SameTree}
+use Rattle.tree.specs.Rules.{RightClass, RightBody, RightDepth, RightPlace, RightShape, RightTree, EveryClass, ShapeChecked, FitChecked, Checked, ShapeJudged, Judged}
+use Rattle.tree.specs.Trees.{mostClasses, parentOf, shareOf, curveOf, isChild, childBelow, hasChild, isLeaf, stepsUp, depth, curveBelow, curvesFrom, curvesOf, SameTree}
 use Rattle.tree.specs.declared.Class.{Class}
 use Rattle.tree.specs.declared.Tree.{Tree}
 use Rattle.tree.specs.declared.Verdict.{Verdict}
@@ -87,7 +87,7 @@ module _ (t u : Tree) (same : SameTree t u) where
 
   pub same-curves : curvesOf t ≡ curvesOf u
   unfolding curvesOf
-  same-curves = from-same 0 64
+  same-curves = from-same 0 mostClasses
 
   steps-same : EveryClass (RightBody t) (t .count) → (n i : ℕ) → i < t .count → stepsUp t n i ≡ stepsUp u n i
   unfolding stepsUp
@@ -124,19 +124,22 @@ module _ (t u : Tree) (same : SameTree t u) where
         from = λ i l good has. same-curve i l ∙ good (sym (same-has-child i) ∙ has);
       }
 
-  pub same-right : RightTree t → RightTree u
-  same-right right =
+  pub same-shape : RightShape t → RightShape u
+  same-shape right =
       record {
         count = rw (← same .counts) (right .count);
         bodies = every-map (same .counts) bodies-same (right .bodies);
         depths = every-map (same .counts) (depths-same (right .bodies)) (right .depths);
         places = every-map (same .counts) places-same (right .places);
-        fit = subst CurvesFit same-curves (right .fit);
       }
 
-  pub same-checked : (Next : Verdict → Type 0) (v : Verdict) → Checked t Next v → Checked u Next v
-  unfolding Checked
-  same-checked Next v =
+  pub same-right : RightTree t → RightTree u
+  same-right right = record { shape = same-shape (right .shape); fit = subst CurvesFit same-curves (right .fit) }
+
+  -- the verdict by shape, where what comes after gives the same; the verdict of check 10; and that of both
+  pub same-shape-checked : (Next Next′ : Verdict → Type 0) (v : Verdict) → (Next v → Next′ v) → ShapeChecked t Next v → ShapeChecked u Next′ v
+  unfolding ShapeChecked
+  same-shape-checked Next Next′ v after =
       rule-map (λ count. rw (← same .counts) count) (whole-map (λ count. rw (same .counts) count))
       (λ count.
       rule-map (every-map (same .counts) bodies-same) (lowest-map (same .counts) bodies-same)
@@ -144,9 +147,16 @@ module _ (t u : Tree) (same : SameTree t u) where
       rule-map (every-map (same .counts) (depths-same bodies)) (lowest-map (same .counts) (depths-same bodies))
       (λ depths.
       rule-map (every-map (same .counts) places-same) (lowest-map (same .counts) places-same)
-      (λ places.
-      rule-map (subst CurvesFit same-curves) (whole-map (subst CurvesFit (sym same-curves)))
-      (λ fit v next. next))))) v
+      (λ places. after))))
+
+  same-fit-checked : (Next : Verdict → Type 0) (v : Verdict) → FitChecked t Next v → FitChecked u Next v
+  same-fit-checked Next v = rule-map (subst CurvesFit same-curves) (whole-map (subst CurvesFit (sym same-curves))) (λ fit next. next)
+
+  pub same-checked : (Next : Verdict → Type 0) (v : Verdict) → Checked t Next v → Checked u Next v
+  same-checked Next v = same-shape-checked (FitChecked t Next) (FitChecked u Next) v (same-fit-checked Next v)
+
+  pub same-shape-judged : (v : Verdict) → ShapeJudged t v → ShapeJudged u v
+  same-shape-judged v = same-shape-checked (λ w. w ≡ Right) (λ w. w ≡ Right) v (λ right. right)
 
   pub same-judged : (v : Verdict) → Judged t v → Judged u v
   same-judged v judged = same-checked (λ w. w ≡ Right) v judged

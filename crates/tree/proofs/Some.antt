@@ -1,4 +1,4 @@
--- Every tree has a verdict: each rule can be tested, and the first that is broken, or none, decides.
+-- Every tree has a verdict, and one by its shape: each rule can be tested, and the first that is broken, or none, decides.
 -- Assumes nothing.
 use Prim.Native.Nat.{ℕ, zero, suc, _≤_}
 use mathlib.Core.Bool.{Bool, true, false, true≢false}
@@ -9,15 +9,15 @@ use native.Mathlib.Decide.{decLe, ℕ-discrete, map-dec}
 use native.Mathlib.Nat.{not-suc-le-zero, eq-or-lt-of-le, le-of-suc-le-suc}
 use native.Mathlib.Omega.{arith}
 use lib.ListN.{length, getD}
-use Rattle.curve.specs.Curves.{inParts}
-use Rattle.curve.specs.Fit.{CurvesFit, total, bendOf, slopes}
+use Rattle.curve.specs.Curves.{whole, inParts, bendOf}
+use Rattle.curve.specs.Fit.{CurvesFit, total, slopes}
 use Rattle.curve.specs.declared.Curve.{Curve}
 use Rattle.curve.specs.declared.Curve.the-variants.{None, Straight, FrontLoaded, Delayed}
 use Rattle.curve.proofs.Laws.Limits.{both-decided, within-decided, rate-decided, right-decided}
 use Rattle.curve.proofs.Laws.Fit.{bends-enough, slopes-needed, fit-at, every-bend}
 use Rattle.tree.specs.Numbers.{numberOf}
-use Rattle.tree.specs.Rules.{RightClass, RightBody, RightDepth, RightPlace, EveryClass, LowestFault, broken, kept, OfTree, OfClasses, Checked, Judged}
-use Rattle.tree.specs.Trees.{classAt, curveOf, hasChild, depth, curvesOf}
+use Rattle.tree.specs.Rules.{RightClass, RightBody, RightDepth, RightPlace, RightShape, EveryClass, LowestFault, broken, kept, OfTree, OfClasses, ShapeChecked, ShapeJudged, Judged}
+use Rattle.tree.specs.Trees.{mostClasses, deepest, classAt, curveOf, hasChild, depth, curvesOf}
 use Rattle.tree.specs.declared.Class.{Class}
 use Rattle.tree.specs.declared.Refusal.{Refusal}
 use Rattle.tree.specs.declared.Refusal.the-variants.{WrongCount, WrongBody, TooDeep, CurveAboveChildren, CurvesDontFit}
@@ -36,7 +36,7 @@ class-dec : (c : Class) (i : ℕ) → Dec (RightClass c i)
 unfolding RightClass
 class-dec c zero =
     map-dec (λ p. record { parent = p .0; share = p .1 .0; curve = p .1 .1 }) (λ r. (r .parent, (r .share, r .curve)))
-    (both-decided (ℕ-discrete (c .parent) 0) (both-decided (ℕ-discrete (c .share) 65536) (none-dec (c .curve))))
+    (both-decided (ℕ-discrete (c .parent) 0) (both-decided (ℕ-discrete (c .share) whole) (none-dec (c .curve))))
 class-dec c (suc i) =
     map-dec (λ p. record { parent = p .0; share = p .1 .0; curve = p .1 .1 }) (λ r. (r .parent, (r .share, r .curve)))
     (both-decided (decLe (suc (c .parent)) (suc i)) (both-decided (rate-decided (c .share)) (right-decided (c .curve))))
@@ -62,7 +62,7 @@ lowest-or-every Good test (suc n) = ⊎-elim at-last (λ found. inr (found .0, h
 fit-dec : (Ss : List Curve) → Dec (CurvesFit Ss)
 fit-dec Ss =
     ⊎-elim
-    (λ every. map-dec (λ slow. bends-enough Ss (every-bend (λ b. total Ss b ≤ inParts b) Ss every) slow) (slopes-needed Ss) (decLe (slopes Ss) 65536))
+    (λ every. map-dec (λ slow. bends-enough Ss (every-bend (λ b. total Ss b ≤ inParts b) Ss every) slow) (slopes-needed Ss) (decLe (slopes Ss) whole))
     (λ found. no (λ fit. found .1 .fault (fit-at Ss fit (bendOf (getD Ss (found .0) None)))))
     (lowest-or-every (λ k. total Ss (bendOf (getD Ss k None)) ≤ inParts (bendOf (getD Ss k None)))
     (λ k. decLe (total Ss (bendOf (getD Ss k None))) (inParts (bendOf (getD Ss k None)))) (length Ss))
@@ -81,11 +81,17 @@ of-classes-some why n Good test next =
     ⊎-elim (λ every. let after = next every in (after .0, kept every (after .1))) (λ found. (Refused why (found .0), broken refl (found .1)))
     (lowest-or-every Good test n)
 
-pub check-some : (t : Tree) → (v : Verdict) × Judged t v
-unfolding Checked
-check-some t =
-    of-tree-some WrongCount (within-decided 2 64 (t .count))
+pub shape-checked-some : (t : Tree) {Next : Verdict → Type 0} → (RightShape t → Some Next) → Some (ShapeChecked t Next)
+unfolding ShapeChecked
+shape-checked-some t next =
+    of-tree-some WrongCount (within-decided 2 mostClasses (t .count))
     (λ count. of-classes-some WrongBody (t .count) (RightBody t) (λ i. class-dec (classAt t i) i)
-    (λ bodies. of-classes-some TooDeep (t .count) (RightDepth t) (λ i. decLe (depth t i) 8)
+    (λ bodies. of-classes-some TooDeep (t .count) (RightDepth t) (λ i. decLe (depth t i) deepest)
     (λ depths. of-classes-some CurveAboveChildren (t .count) (RightPlace t) (λ i. place-dec (hasChild t i) (curveOf t i))
-    (λ places. of-tree-some CurvesDontFit (fit-dec (curvesOf t)) (λ fit. (Right, refl))))))
+    (λ places. next (record { count = count; bodies = bodies; depths = depths; places = places })))))
+
+pub shape-some : (t : Tree) → (v : Verdict) × ShapeJudged t v
+shape-some t = shape-checked-some t (λ shape. (Right, refl))
+
+pub check-some : (t : Tree) → (v : Verdict) × Judged t v
+check-some t = shape-checked-some t (λ shape. of-tree-some CurvesDontFit (fit-dec (curvesOf t)) (λ fit. (Right, refl)))

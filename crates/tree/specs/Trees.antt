@@ -12,6 +12,14 @@ use Rattle.curve.specs.declared.Curve.the-variants.{None}
 use Rattle.tree.specs.declared.Class.{Class}
 use Rattle.tree.specs.declared.Tree.{Tree}
 
+-- "classes, root included: 2 to 64"
+abbrev pub mostClasses : ℕ
+mostClasses = 64
+
+-- "depth of a class (root is 0): at most 8"
+abbrev pub deepest : ℕ
+deepest = 8
+
 -- what stands where no class is
 abbrev pub noClass : Class
 noClass = record { parent = 0; share = 0; curve = None }
@@ -64,9 +72,9 @@ unfoldable pub curvesFrom : Tree → ℕ → ℕ → List Curve
 curvesFrom t i zero = []
 curvesFrom t i (suc n) = curveBelow t i ∷ curvesFrom t (suc i) n
 
--- "the real-time curves": 64 of them, in the order of the classes, and none where no class is
+-- "the real-time curves": as many as the most classes, in their order, and none where no class is
 unfoldable pub curvesOf : Tree → List Curve
-curvesOf t = curvesFrom t 0 64
+curvesOf t = curvesFrom t 0 mostClasses
 
 -- two trees are the same: equal counts, and equal classes below the count
 pub record SameTree (t u : Tree) : Type 0 where
@@ -75,4 +83,4 @@ pub record SameTree (t u : Tree) : Type 0 where
 
 -- "a tree of no classes": what every refusal yields
 unfoldable pub emptyTree : Tree
-emptyTree = record { count = 0; classes = replicate 64 noClass }
+emptyTree = record { count = 0; classes = replicate mostClasses noClass }

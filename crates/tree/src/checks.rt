@@ -5,10 +5,13 @@ ghost use Prim.Native.Nat.{_<_};
 ghost use Rattle.curve.specs.Answers.{Exactly};
 ghost use Rattle.tree.specs.Rules.{RightRoot, RightOther, RightClass, RightBody, RightDepth, RightPlace, EveryClass, Found};
 ghost use Rattle.tree.specs.Trees.{curveBelow, curvesOf, depth, hasChild};
+use crate::CLASSES;
 use crate::Class;
+use crate::DEEPEST;
 use crate::Fault;
 use crate::Tree;
 use curve::Curve;
+use curve::WHOLE;
 
 fn no_curve(curve: Curve) -> bool
     ensures { λ r. ⌜ Exactly r (curve ≡ Curve.None) ⌝ }
@@ -22,7 +25,7 @@ fn right_root(class: Class) -> bool
     if class.parent != 0 {
         return false;
     }
-    if class.share != 65536 {
+    if class.share != WHOLE {
         return false;
     }
     let curve = class.curve;
@@ -38,7 +41,7 @@ fn right_other(class: Class, number: u32) -> bool
     if class.share < 1 {
         return false;
     }
-    if 65536 < class.share {
+    if WHOLE < class.share {
         return false;
     }
     let curve = class.curve;
@@ -56,7 +59,7 @@ fn right_class(class: Class, number: u32) -> bool
 }
 
 // Rule 7.
-pub fn wrong_body(tree: Tree) -> Fault
+pub(crate) fn wrong_body(tree: Tree) -> Fault
     ensures { λ r. ⌜ Found (RightBody tree) (tree .count) r ⌝ }
 {
     let count = tree.count;
@@ -87,14 +90,14 @@ fn depth_of(tree: Tree, class: u32) -> u32
 }
 
 // Rule 8.
-pub fn too_deep(tree: Tree) -> Fault
+pub(crate) fn too_deep(tree: Tree) -> Fault
     requires { ⌜ EveryClass (RightBody tree) (tree .count) ⌝ }
     ensures { λ r. ⌜ Found (RightDepth tree) (tree .count) r ⌝ }
 {
     let count = tree.count;
     let mut i: u32 = 0;
     while i < count {
-        if 8 < depth_of(tree, i) {
+        if DEEPEST < depth_of(tree, i) {
             return Fault::At(i);
         }
         i += 1;
@@ -130,7 +133,7 @@ fn right_place(tree: Tree, class: u32) -> bool
 }
 
 // Rule 9.
-pub fn curve_above_children(tree: Tree) -> Fault
+pub(crate) fn curve_above_children(tree: Tree) -> Fault
     ensures { λ r. ⌜ Found (RightPlace tree) (tree .count) r ⌝ }
 {
     let count = tree.count;
@@ -155,12 +158,12 @@ fn curve_below(tree: Tree, class: u32) -> Curve
 }
 
 // The curves that rule 10 is about.
-pub fn curves_of(tree: Tree) -> [Curve; 64]
+pub(crate) fn curves_of(tree: Tree) -> [Curve; CLASSES]
     ensures { λ r. ⌜ r ≡ curvesOf tree ⌝ }
 {
-    let mut curves = [Curve::None; 64];
+    let mut curves = [Curve::None; CLASSES];
     let mut i: usize = 0;
-    while i < 64 {
+    while i < CLASSES {
         curves[i] = curve_below(tree, i as u32);
         i += 1;
     }

@@ -2,11 +2,20 @@
 // the classes numbered below it; nothing else held with it counts.
 ghost use mathlib.Core.Path.{_≡_};
 ghost use Rattle.tree.specs.Numbers.{numberOf};
-ghost use Rattle.tree.specs.Rules.{Judged};
+ghost use Rattle.tree.specs.Rules.{ShapeJudged, Judged};
 ghost use Rattle.tree.specs.Trees.{classAt, emptyTree, noClass};
 use curve::Curve;
 
 mod checks;
+
+// The most classes, root included: as many as the curves that are tested together.
+pub const CLASSES: usize = curve::fit::CURVES;
+
+// The same as a count.
+pub const MOST_CLASSES: u32 = CLASSES as u32;
+
+// How deep a class may lie; the root is at 0.
+pub const DEEPEST: u32 = 8;
 
 // A class: the number of its parent, its share, and its real-time curve.
 pub struct Class {
@@ -18,7 +27,7 @@ pub struct Class {
 // A tree by value. Class 0 is the root.
 pub struct Tree {
     pub count: u32,
-    pub classes: [Class; 64],
+    pub classes: [Class; CLASSES],
 }
 
 // What is refused, one for each number of document 01's table, in its order.
@@ -49,7 +58,7 @@ pub enum Verdict {
 }
 
 // What a search through the classes finds: the lowest class at fault, or none.
-pub enum Fault {
+enum Fault {
     At(u32),
     Nowhere,
 }
@@ -96,7 +105,7 @@ pub fn empty() -> Tree
 {
     Tree {
         count: 0,
-        classes: [no_class(); 64],
+        classes: [no_class(); CLASSES],
     }
 }
 
@@ -104,22 +113,23 @@ pub fn empty() -> Tree
 pub fn class_at(tree: Tree, number: u32) -> Class
     ensures { λ r. ⌜ r ≡ classAt tree number ⌝ }
 {
-    if 64 <= number {
+    if MOST_CLASSES <= number {
         return no_class();
     }
     let at = number as usize;
     tree.classes[at]
 }
 
-// The verdict of a tree: each rule over all classes before the next, and the lowest class at fault.
-pub fn check(tree: Tree) -> Verdict
-    ensures { λ r. ⌜ Judged tree r ⌝ }
+// The verdict of a tree by its shape alone, the rules 4, 7, 8 and 9: each rule over all classes before
+// the next, and the lowest class at fault.
+pub fn shape(tree: Tree) -> Verdict
+    ensures { λ r. ⌜ ShapeJudged tree r ⌝ }
 {
     let count = tree.count;
     if count < 2 {
         return refused(Refusal::WrongCount, 0);
     }
-    if 64 < count {
+    if MOST_CLASSES < count {
         return refused(Refusal::WrongCount, 0);
     }
     if let Fault::At(class) = checks::wrong_body(tree) {
@@ -130,6 +140,16 @@ pub fn check(tree: Tree) -> Verdict
     }
     if let Fault::At(class) = checks::curve_above_children(tree) {
         return refused(Refusal::CurveAboveChildren, class);
+    }
+    Verdict::Right
+}
+
+// The verdict of a tree: its shape, and then rule 10, whether its curves fit.
+pub fn check(tree: Tree) -> Verdict
+    ensures { λ r. ⌜ Judged tree r ⌝ }
+{
+    if let Verdict::Refused { why, class } = shape(tree) {
+        return refused(why, class);
     }
     if curve::fit::fits(checks::curves_of(tree)) {
         Verdict::Right

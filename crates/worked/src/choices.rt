@@ -6,9 +6,11 @@ use crate::calls::virtual_times;
 use crate::show::text;
 use crate::trees;
 use curve::Curve;
+use state::table::Lengths;
+use state::table::Words;
 ghost use Rattle.state.specs.State.{Reached};
 
-pub fn run(words: &mut [u64; 1536], lengths: &mut [u16; 4096]) {
+pub fn run(words: &mut Words, lengths: &mut Lengths) {
     same_deadline(words, lengths);
     same_virtual(words, lengths);
     between(words, lengths);
@@ -16,7 +18,7 @@ pub fn run(words: &mut [u64; 1536], lengths: &mut [u16; 4096]) {
     deep_again(words, lengths);
 }
 
-fn same_deadline(words: &mut [u64; 1536], lengths: &mut [u16; 4096]) {
+fn same_deadline(words: &mut Words, lengths: &mut Lengths) {
     text(b"# equal deadlines: the lowest class number\n");
     let half = Curve::Straight { rate: 32768 };
     starts(trees::pair(1, half, 65536, half), 0, words, lengths);
@@ -26,7 +28,7 @@ fn same_deadline(words: &mut [u64; 1536], lengths: &mut [u16; 4096]) {
     departs(words, lengths, 500);
 }
 
-fn same_virtual(words: &mut [u64; 1536], lengths: &mut [u16; 4096]) {
+fn same_virtual(words: &mut Words, lengths: &mut Lengths) {
     text(b"# equal virtual times: the lowest class number\n");
     starts(
         trees::pair(65536, Curve::None, 65536, Curve::None),
@@ -46,7 +48,7 @@ fn same_virtual(words: &mut [u64; 1536], lengths: &mut [u16; 4096]) {
 }
 
 // Leaf 3 turns active while 1 and 2 are at 101 and 400: it starts at 250.
-fn between(words: &mut [u64; 1536], lengths: &mut [u16; 4096]) {
+fn between(words: &mut Words, lengths: &mut Lengths) {
     text(b"# a class turns active between two others\n");
     starts(trees::bare(), 0, words, lengths);
     arrives(words, lengths, 0, 1, 101);
@@ -68,7 +70,7 @@ fn between(words: &mut [u64; 1536], lengths: &mut [u16; 4096]) {
 }
 
 // Two packets of 600 in each leaf of the deep tree, and all leave.
-fn deep_sent(words: &mut [u64; 1536], lengths: &mut [u16; 4096])
+fn deep_sent(words: &mut Words, lengths: &mut Lengths)
     ensures { λ r. ⌜ Reached (now (words .exit)) (now (lengths .exit)) ⌝ }
 {
     starts(trees::deep(), 0, words, lengths);
@@ -86,7 +88,7 @@ fn deep_sent(words: &mut [u64; 1536], lengths: &mut [u16; 4096])
     departs(words, lengths, 3000);
 }
 
-fn deep(words: &mut [u64; 1536], lengths: &mut [u16; 4096]) {
+fn deep(words: &mut Words, lengths: &mut Lengths) {
     text(b"# a tree of depth 8\n");
     deep_sent(words, lengths);
     departs(words, lengths, 3600);
@@ -94,7 +96,7 @@ fn deep(words: &mut [u64; 1536], lengths: &mut [u16; 4096]) {
     virtual_times(words, lengths, 8, 9);
 }
 
-fn deep_again(words: &mut [u64; 1536], lengths: &mut [u16; 4096]) {
+fn deep_again(words: &mut Words, lengths: &mut Lengths) {
     text(b"# a tree of depth 8, active again\n");
     deep_sent(words, lengths);
     arrives(words, lengths, 9000, 10, 600);

@@ -7,9 +7,11 @@ use crate::show::text;
 use crate::trees;
 use curve::Curve;
 use rules::Arrival;
+use state::table::Lengths;
+use state::table::Words;
 ghost use Rattle.state.specs.State.{Reached};
 
-pub fn run(words: &mut [u64; 1536], lengths: &mut [u16; 4096]) {
+pub fn run(words: &mut Words, lengths: &mut Lengths) {
     leaves(words, lengths);
     sizes(words, lengths);
     room(words, lengths);
@@ -19,7 +21,7 @@ pub fn run(words: &mut [u64; 1536], lengths: &mut [u16; 4096]) {
     trees_refused(words, lengths);
 }
 
-fn leaves(words: &mut [u64; 1536], lengths: &mut [u16; 4096]) {
+fn leaves(words: &mut Words, lengths: &mut Lengths) {
     text(b"# class number absent, or not a leaf: 11\n");
     starts(trees::deep(), 0, words, lengths);
     arrives(words, lengths, 0, 0, 500);
@@ -30,7 +32,7 @@ fn leaves(words: &mut [u64; 1536], lengths: &mut [u16; 4096]) {
     arrives(words, lengths, 0, 4294967295, 500);
 }
 
-fn sizes(words: &mut [u64; 1536], lengths: &mut [u16; 4096]) {
+fn sizes(words: &mut Words, lengths: &mut Lengths) {
     text(b"# packet length outside 1 to 9,000: 12\n");
     starts(trees::tree_a(), 0, words, lengths);
     arrives(words, lengths, 0, 1, 0);
@@ -41,7 +43,7 @@ fn sizes(words: &mut [u64; 1536], lengths: &mut [u16; 4096]) {
 }
 
 // An arrival for leaf 1: whether it was accepted.
-fn is_accepted(words: &mut [u64; 1536], lengths: &mut [u16; 4096], length: u32) -> bool
+fn is_accepted(words: &mut Words, lengths: &mut Lengths, length: u32) -> bool
     requires { ⌜ Reached (now words) (now lengths) ⌝ }
     ensures { λ r. ⌜ Reached (now (words .exit)) (now (lengths .exit)) ⌝ }
 {
@@ -53,7 +55,7 @@ fn is_accepted(words: &mut [u64; 1536], lengths: &mut [u16; 4096], length: u32) 
 }
 
 // So many arrivals for leaf 1 at stamp 0, of lengths 1, 2, 3, ..
-fn fill(words: &mut [u64; 1536], lengths: &mut [u16; 4096], times: u32)
+fn fill(words: &mut Words, lengths: &mut Lengths, times: u32)
     requires { ⌜ Reached (now words) (now lengths) ⌝ }
     ensures { λ r. ⌜ Reached (now (words .exit)) (now (lengths .exit)) ⌝ }
 {
@@ -66,7 +68,7 @@ fn fill(words: &mut [u64; 1536], lengths: &mut [u16; 4096], times: u32)
     line(b"accepted, times", accepted as u64);
 }
 
-fn room(words: &mut [u64; 1536], lengths: &mut [u16; 4096]) {
+fn room(words: &mut Words, lengths: &mut Lengths) {
     text(b"# 64 already wait in that leaf: 13; room again after a departure\n");
     starts(trees::tree_a(), 0, words, lengths);
     fill(words, lengths, 64);
@@ -78,7 +80,7 @@ fn room(words: &mut [u64; 1536], lengths: &mut [u16; 4096]) {
 }
 
 // Of several rules that a call breaks the first in this order is named.
-fn order(words: &mut [u64; 1536], lengths: &mut [u16; 4096]) {
+fn order(words: &mut Words, lengths: &mut Lengths) {
     text(b"# an arrival checks 14, 11, 12, 13\n");
     starts(trees::tree_a(), 0, words, lengths);
     fill(words, lengths, 64);
@@ -89,7 +91,7 @@ fn order(words: &mut [u64; 1536], lengths: &mut [u16; 4096]) {
 }
 
 // After a refused call at 100 a call at 50 is 50 ticks after the start, and at 49 it is too far.
-fn same(words: &mut [u64; 1536], lengths: &mut [u16; 4096]) {
+fn same(words: &mut Words, lengths: &mut Lengths) {
     text(b"# a refused call changes nothing\n");
     starts(trees::tree_a(), 0, words, lengths);
     arrives(words, lengths, 100, 3, 500);
@@ -99,7 +101,7 @@ fn same(words: &mut [u64; 1536], lengths: &mut [u16; 4096]) {
     departs(words, lengths, 50);
 }
 
-fn refused_start(words: &mut [u64; 1536], lengths: &mut [u16; 4096]) {
+fn refused_start(words: &mut Words, lengths: &mut Lengths) {
     text(b"# a refused start\n");
     let half = Curve::Straight { rate: 32768 };
     let more = Curve::Straight { rate: 32769 };
@@ -112,7 +114,7 @@ fn refused_start(words: &mut [u64; 1536], lengths: &mut [u16; 4096]) {
     departs(words, lengths, 2147483653);
 }
 
-fn trees_refused(words: &mut [u64; 1536], lengths: &mut [u16; 4096]) {
+fn trees_refused(words: &mut Words, lengths: &mut Lengths) {
     text(b"# trees that are refused\n");
     let none = Curve::None;
     let one = Curve::Straight { rate: 1 };
@@ -123,6 +125,7 @@ fn trees_refused(words: &mut [u64; 1536], lengths: &mut [u16; 4096]) {
     };
     starts(tree::empty(), 0, words, lengths);
     starts(trees::root(), 0, words, lengths);
+    starts(trees::counted(trees::tree_a(), 65), 0, words, lengths);
     starts(trees::pair(1, none, 65537, none), 0, words, lengths);
     starts(trees::pair(1, front, 0, none), 0, words, lengths);
     starts(trees::too_deep(), 0, words, lengths);

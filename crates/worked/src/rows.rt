@@ -6,9 +6,11 @@ use crate::calls::virtual_times;
 use crate::show::text;
 use crate::trees;
 use curve::Curve;
+use state::table::Lengths;
+use state::table::Words;
 ghost use Rattle.state.specs.State.{Reached};
 
-pub fn run(words: &mut [u64; 1536], lengths: &mut [u16; 4096]) {
+pub fn run(words: &mut Words, lengths: &mut Lengths) {
     first_of_one(words, lengths);
     first_of_two(words, lengths);
     both_wait(words, lengths);
@@ -20,14 +22,14 @@ pub fn run(words: &mut [u64; 1536], lengths: &mut [u16; 4096]) {
     fits(words, lengths);
 }
 
-fn first_of_one(words: &mut [u64; 1536], lengths: &mut [u16; 4096]) {
+fn first_of_one(words: &mut Words, lengths: &mut Lengths) {
     text(b"# leaf 1, first packet 500 at 0\n");
     starts(trees::tree_a(), 0, words, lengths);
     arrives(words, lengths, 0, 1, 500);
     departs(words, lengths, 0);
 }
 
-fn first_of_two(words: &mut [u64; 1536], lengths: &mut [u16; 4096]) {
+fn first_of_two(words: &mut Words, lengths: &mut Lengths) {
     text(b"# leaf 2, first packet 1,000 at 0\n");
     starts(trees::tree_a(), 0, words, lengths);
     arrives(words, lengths, 0, 2, 1000);
@@ -35,7 +37,7 @@ fn first_of_two(words: &mut [u64; 1536], lengths: &mut [u16; 4096]) {
 }
 
 // Leaf 1 has 500 and leaf 2 has 1,000 from tick 0 on, and both leave.
-fn both_sent(words: &mut [u64; 1536], lengths: &mut [u16; 4096])
+fn both_sent(words: &mut Words, lengths: &mut Lengths)
     ensures { λ r. ⌜ Reached (now (words .exit)) (now (lengths .exit)) ⌝ }
 {
     starts(trees::tree_a(), 0, words, lengths);
@@ -45,27 +47,27 @@ fn both_sent(words: &mut [u64; 1536], lengths: &mut [u16; 4096])
     departs(words, lengths, 500);
 }
 
-fn both_wait(words: &mut [u64; 1536], lengths: &mut [u16; 4096]) {
+fn both_wait(words: &mut Words, lengths: &mut Lengths) {
     text(b"# both wait; departures at 0 and 500\n");
     both_sent(words, lengths);
     virtual_times(words, lengths, 1, 2);
 }
 
-fn later(words: &mut [u64; 1536], lengths: &mut [u16; 4096]) {
+fn later(words: &mut Words, lengths: &mut Lengths) {
     text(b"# then leaf 1 gets 500 at 5,000\n");
     both_sent(words, lengths);
     arrives(words, lengths, 5000, 1, 500);
     departs(words, lengths, 5000);
 }
 
-fn instead(words: &mut [u64; 1536], lengths: &mut [u16; 4096]) {
+fn instead(words: &mut Words, lengths: &mut Lengths) {
     text(b"# instead leaf 1 gets 500 at 600\n");
     both_sent(words, lengths);
     arrives(words, lengths, 600, 1, 500);
     departs(words, lengths, 1000);
 }
 
-fn delayed_again(words: &mut [u64; 1536], lengths: &mut [u16; 4096]) {
+fn delayed_again(words: &mut Words, lengths: &mut Lengths) {
     text(b"# leaf 2 first waits at 0, sent 1,000 by the real-time rule; gets 1,000 at 1,000\n");
     starts(trees::tree_a(), 0, words, lengths);
     arrives(words, lengths, 0, 2, 1000);
@@ -74,7 +76,7 @@ fn delayed_again(words: &mut [u64; 1536], lengths: &mut [u16; 4096]) {
     departs(words, lengths, 2000);
 }
 
-fn three(words: &mut [u64; 1536], lengths: &mut [u16; 4096]) {
+fn three(words: &mut Words, lengths: &mut Lengths) {
     text(b"# leaf 1 alone, three of 500 at 0; departures 0, 500, 1,000\n");
     starts(trees::tree_a(), 0, words, lengths);
     arrives(words, lengths, 0, 1, 500);
@@ -85,7 +87,7 @@ fn three(words: &mut [u64; 1536], lengths: &mut [u16; 4096]) {
     departs(words, lengths, 1000);
 }
 
-fn both_again(words: &mut [u64; 1536], lengths: &mut [u16; 4096]) {
+fn both_again(words: &mut Words, lengths: &mut Lengths) {
     text(b"# both passive at 2,000 and 1,334; leaf 2 then leaf 1 turn active\n");
     both_sent(words, lengths);
     arrives(words, lengths, 5000, 2, 1000);
@@ -94,11 +96,11 @@ fn both_again(words: &mut [u64; 1536], lengths: &mut [u16; 4096]) {
 }
 
 // Starts a tree of two leaves with these curves.
-fn pair(first: Curve, second: Curve, words: &mut [u64; 1536], lengths: &mut [u16; 4096]) {
+fn pair(first: Curve, second: Curve, words: &mut Words, lengths: &mut Lengths) {
     starts(trees::pair(32768, first, 32768, second), 0, words, lengths);
 }
 
-fn fits(words: &mut [u64; 1536], lengths: &mut [u16; 4096]) {
+fn fits(words: &mut Words, lengths: &mut Lengths) {
     let half = Curve::Straight { rate: 32768 };
     let more = Curve::Straight { rate: 32769 };
     let one = Curve::Straight { rate: 1 };

@@ -39,7 +39,7 @@ fn rule(rule: Rule) {
 }
 
 // As ` eligible 0 deadline 1000`, for a leaf with a real-time curve.
-fn times(times: Times) {
+pub fn times(times: Times) {
     let Times::Timed { eligible, deadline } = times else {
         return;
     };

@@ -6,9 +6,11 @@ use crate::show::line;
 use crate::show::text;
 use crate::trees;
 use rules::Departure;
+use state::table::Lengths;
+use state::table::Words;
 ghost use Rattle.state.specs.State.{Reached};
 
-pub fn run(words: &mut [u64; 1536], lengths: &mut [u16; 4096]) {
+pub fn run(words: &mut Words, lengths: &mut Lengths) {
     round(words, lengths);
     kept(words, lengths);
     too_far(words, lengths);
@@ -16,14 +18,14 @@ pub fn run(words: &mut [u64; 1536], lengths: &mut [u16; 4096]) {
     last_tick(words, lengths);
 }
 
-fn round(words: &mut [u64; 1536], lengths: &mut [u16; 4096]) {
+fn round(words: &mut Words, lengths: &mut Lengths) {
     text(b"# stamp 4,294,967,290, then 10: 16 elapsed\n");
     starts(trees::tree_a(), 4294967290, words, lengths);
     arrives(words, lengths, 10, 1, 500);
     departs(words, lengths, 10);
 }
 
-fn kept(words: &mut [u64; 1536], lengths: &mut [u16; 4096]) {
+fn kept(words: &mut Words, lengths: &mut Lengths) {
     text(b"# elapsed 2,147,483,647: kept\n");
     starts(trees::tree_a(), 7, words, lengths);
     arrives(words, lengths, 2147483654, 1, 500);
@@ -31,7 +33,7 @@ fn kept(words: &mut [u64; 1536], lengths: &mut [u16; 4096]) {
 }
 
 // The call that is refused moves neither the clock nor the kept stamp.
-fn too_far(words: &mut [u64; 1536], lengths: &mut [u16; 4096]) {
+fn too_far(words: &mut Words, lengths: &mut Lengths) {
     text(b"# elapsed 2,147,483,648: 14\n");
     starts(trees::tree_a(), 7, words, lengths);
     arrives(words, lengths, 2147483655, 1, 500);
@@ -41,7 +43,7 @@ fn too_far(words: &mut [u64; 1536], lengths: &mut [u16; 4096]) {
     departs(words, lengths, 8);
 }
 
-fn idle(words: &mut [u64; 1536], lengths: &mut [u16; 4096]) {
+fn idle(words: &mut Words, lengths: &mut Lengths) {
     text(b"# none waits moves the clock\n");
     starts(trees::tree_a(), 0, words, lengths);
     departs(words, lengths, 2147483647);
@@ -50,7 +52,7 @@ fn idle(words: &mut [u64; 1536], lengths: &mut [u16; 4096]) {
 }
 
 // A departure at that stamp: whether none waited.
-fn is_idle(words: &mut [u64; 1536], lengths: &mut [u16; 4096], stamp: u32) -> bool
+fn is_idle(words: &mut Words, lengths: &mut Lengths, stamp: u32) -> bool
     requires { ⌜ Reached (now words) (now lengths) ⌝ }
     ensures { λ r. ⌜ Reached (now (words .exit)) (now (lengths .exit)) ⌝ }
 {
@@ -62,7 +64,7 @@ fn is_idle(words: &mut [u64; 1536], lengths: &mut [u16; 4096], stamp: u32) -> bo
 }
 
 // So many departures, each 2,147,483,647 ticks after the one before, from stamp 0 on.
-fn wait(words: &mut [u64; 1536], lengths: &mut [u16; 4096], times: u32)
+fn wait(words: &mut Words, lengths: &mut Lengths, times: u32)
     requires { ⌜ Reached (now words) (now lengths) ⌝ }
     ensures { λ r. ⌜ Reached (now (words .exit)) (now (lengths .exit)) ⌝ }
 {
@@ -78,7 +80,7 @@ fn wait(words: &mut [u64; 1536], lengths: &mut [u16; 4096], times: u32)
 }
 
 // 512 times 2,147,483,647 is 2^40 less 512; the stamp is then 2^32 less 512.
-fn last_tick(words: &mut [u64; 1536], lengths: &mut [u16; 4096]) {
+fn last_tick(words: &mut Words, lengths: &mut Lengths) {
     text(b"# the clock at 2^40, and one tick more: 15\n");
     starts(trees::tree_a(), 0, words, lengths);
     wait(words, lengths, 512);

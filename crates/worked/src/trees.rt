@@ -19,6 +19,13 @@ pub fn with(tree: Tree, parent: u32, share: u32, curve: Curve) -> Tree {
     next
 }
 
+// The tree with another count.
+pub fn counted(tree: Tree, count: u32) -> Tree {
+    let mut next = tree;
+    next.count = count;
+    next
+}
+
 // A root alone.
 pub fn root() -> Tree {
     with(tree::empty(), 0, 65536, Curve::None)

@@ -6,8 +6,8 @@ use native.Mathlib.Nat.{mul-le-mul-left, mul-le-mul-right, mul-le-mul, le-trans,
 use native.Mathlib.Omega.{arith}
 use mathlib.Core.Logic.{⊎-elim}
 use Rattle.curve.proofs.Laws.Order.{le-or-lt}
-use Rattle.curve.specs.Curves.{amount, RightRate, Rising, inParts}
-use Rattle.curve.specs.Pieces.{lead, lastSlope, firstSlope}
+use Rattle.curve.specs.Curves.{whole, latestBend, amount, RightRate, Rising, inParts, lastSlope, firstSlope}
+use Rattle.curve.specs.Pieces.{lead}
 use Rattle.curve.specs.declared.Curve.{Curve}
 use Rattle.curve.specs.declared.Curve.the-variants.{None, Straight, FrontLoaded, Delayed}
 
@@ -28,14 +28,14 @@ amount-mono (FrontLoaded m₁ d m₂) h = add-le-add (mul-le-mul-left m₁ (omeg
 amount-mono (Delayed d m) h = mul-le-mul-left m (omega arith)
 
 -- a right curve that is there has grown by one a tick past its bend, at least
-pub rising-reaches : (S : Curve) → Rising S → (x : ℕ) → x ≤ amount S (x + 1048576)
+pub rising-reaches : (S : Curve) → Rising S → (x : ℕ) → x ≤ amount S (x + latestBend)
 unfolding amount Rising
-rising-reaches (Straight m) r x = le-trans (omega arith) (mul-le-mul (r .above) (native.Mathlib.Nat.le-refl (x + 1048576)))
+rising-reaches (Straight m) r x = le-trans (omega arith) (mul-le-mul (r .above) (native.Mathlib.Nat.le-refl (x + latestBend)))
 rising-reaches (FrontLoaded m₁ d m₂) r x =
-    let a = mul-le-mul (r .last .above) (native.Mathlib.Nat.le-refl (x + 1048576 - d)) in
+    let a = mul-le-mul (r .last .above) (native.Mathlib.Nat.le-refl (x + latestBend - d)) in
     omega (arith, r .bend .below)
 rising-reaches (Delayed d m) r x =
-    let a = mul-le-mul (r .rate .above) (native.Mathlib.Nat.le-refl (x + 1048576 - d)) in
+    let a = mul-le-mul (r .rate .above) (native.Mathlib.Nat.le-refl (x + latestBend - d)) in
     omega (arith, r .bend .below)
 
 -- a sum of ticks is moved across a bend: what the steep part loses the flat part gains
@@ -62,7 +62,7 @@ amount-sum (FrontLoaded m₁ d m₂) r x y =
 amount-sum (Delayed d m) r x y = le-trans (mul-le-mul-left m (omega arith)) (le-of-eq (mul-add m (x + d - d) (y - d)))
 
 -- read as the eligible time reads it, a curve is higher by 2^36 at the most
-pub lead-rise : (S : Curve) → Rising S → (x : ℕ) → amount S (x + lead S) ≤ amount S x + 65536 * 1048576
+pub lead-rise : (S : Curve) → Rising S → (x : ℕ) → amount S (x + lead S) ≤ amount S x + whole * latestBend
 unfolding amount Rising
 lead-rise (Straight m) r x = rw native.Mathlib.Nat.add-zero (omega arith)
 lead-rise (FrontLoaded m₁ d m₂) r x = rw native.Mathlib.Nat.add-zero (omega arith)
@@ -70,7 +70,7 @@ lead-rise (Delayed d m) r x =
     let a : m * (x + d - d) ≤ m * (x - d + d) = mul-le-mul-left m (omega arith) in
     omega (arith, mul-le-mul (r .rate .below) (r .bend .below))
 
-pub amount-doubled : (S : Curve) → Rising S → (x : ℕ) → amount S (2 * x) ≤ 2 * amount S x + 65536 * 1048576
+pub amount-doubled : (S : Curve) → Rising S → (x : ℕ) → amount S (2 * x) ≤ 2 * amount S x + whole * latestBend
 amount-doubled S r x =
     let e : 2 * x ≡ x + x = omega arith in
     rw e (omega (arith, amount-sum S r x x, lead-rise S r x))
@@ -108,32 +108,32 @@ rising-slopes (FrontLoaded m₁ d m₂) r = (r .first, r .last)
 rising-slopes (Delayed d m) r = (r .rate, r .rate)
 
 pub rising-most : (S : Curve) → Rising S → (x : ℕ) → amount S x ≤ inParts x
-rising-most S r = amount-most 65536 S (rising-slopes S r .0 .below) (rising-slopes S r .1 .below)
+rising-most S r = amount-most whole S (rising-slopes S r .0 .below) (rising-slopes S r .1 .below)
 
-line-most : {m : ℕ} → RightRate m → (x y : ℕ) → x ≤ y + 1048576 → m * x ≤ m * y + 65536 * 1048576
-line-most {m} r x y l = omega (arith, mul-le-mul-left m l, mul-le-mul (r .below) (native.Mathlib.Nat.le-refl 1048576))
+line-most : {m : ℕ} → RightRate m → (x y : ℕ) → x ≤ y + latestBend → m * x ≤ m * y + whole * latestBend
+line-most {m} r x y l = omega (arith, mul-le-mul-left m l, mul-le-mul (r .below) (native.Mathlib.Nat.le-refl latestBend))
 
 -- a curve has at least what its last slope has risen past the longest bend, and little more
-pub last-slope-least : (S : Curve) → Rising S → (t : ℕ) → lastSlope S * (t - 1048576) ≤ amount S t
+pub last-slope-least : (S : Curve) → Rising S → (t : ℕ) → lastSlope S * (t - latestBend) ≤ amount S t
 unfolding amount Rising
 last-slope-least (Straight m) r t = mul-le-mul-left m (omega arith)
-last-slope-least (FrontLoaded m₁ d m₂) r t = let a : m₂ * (t - 1048576) ≤ m₂ * (t - d) = mul-le-mul-left m₂ (omega (arith, r .bend .below)) in omega arith
+last-slope-least (FrontLoaded m₁ d m₂) r t = let a : m₂ * (t - latestBend) ≤ m₂ * (t - d) = mul-le-mul-left m₂ (omega (arith, r .bend .below)) in omega arith
 last-slope-least (Delayed d m) r t = mul-le-mul-left m (omega (arith, r .bend .below))
 
-pub last-slope-most : (S : Curve) → Rising S → (t : ℕ) → amount S t ≤ lastSlope S * (t - 1048576) + 2 * (65536 * 1048576)
+pub last-slope-most : (S : Curve) → Rising S → (t : ℕ) → amount S t ≤ lastSlope S * (t - latestBend) + 2 * (whole * latestBend)
 unfolding amount Rising
-last-slope-most (Straight m) r t = omega (arith, line-most r t (t - 1048576) (omega arith))
+last-slope-most (Straight m) r t = omega (arith, line-most r t (t - latestBend) (omega arith))
 last-slope-most (FrontLoaded m₁ d m₂) r t =
-    let l : min t d ≤ 1048576 = omega (arith, r .bend .below) in
-    omega (arith, mul-le-mul (r .first .below) l, line-most (r .last) (t - d) (t - 1048576) (omega arith))
-last-slope-most (Delayed d m) r t = omega (arith, line-most (r .rate) (t - d) (t - 1048576) (omega arith))
+    let l : min t d ≤ latestBend = omega (arith, r .bend .below) in
+    omega (arith, mul-le-mul (r .first .below) l, line-most (r .last) (t - d) (t - latestBend) (omega arith))
+last-slope-most (Delayed d m) r t = omega (arith, line-most (r .rate) (t - d) (t - latestBend) (omega arith))
 
 -- so a tick at which an amount is not reached is not far past that amount
-pub rising-soon : (S : Curve) → Rising S → {t y : ℕ} → amount S t < y → t < y + 1048576
-rising-soon S r {t} {y} h = ⊎-elim (λ l. omega arith) (λ l. far (omega arith)) (le-or-lt t 1048576)
+pub rising-soon : (S : Curve) → Rising S → {t y : ℕ} → amount S t < y → t < y + latestBend
+rising-soon S r {t} {y} h = ⊎-elim (λ l. omega arith) (λ l. far (omega arith)) (le-or-lt t latestBend)
   where
-    far : t - 1048576 + 1048576 ≡ t → t < y + 1048576
-    far e = omega (arith, rw e at (rising-reaches S r (t - 1048576)))
+    far : t - latestBend + latestBend ≡ t → t < y + latestBend
+    far e = omega (arith, rw e at (rising-reaches S r (t - latestBend)))
 
 -- what is reached at one tick and not at another: the other is earlier
 pub reached-later : (S : Curve) {m u y : ℕ} → amount S m < y → y ≤ amount S u → m < u

@@ -9,9 +9,8 @@ use native.Mathlib.Nat.{mul-le-mul-left, mul-le-mul-right, le-trans, le-refl, le
 use native.Mathlib.Omega.{arith}
 use native.Mathlib.Numerals.{add-one}
 use lib.ListN.{length, getD}
-use Rattle.curve.specs.Curves.{amount, inParts}
-use Rattle.curve.specs.Fit.{sumOf, total, CurvesFit, bendOf, slopes}
-use Rattle.curve.specs.Pieces.{lastSlope}
+use Rattle.curve.specs.Curves.{whole, amount, inParts, lastSlope, bendOf}
+use Rattle.curve.specs.Fit.{sumOf, total, CurvesFit, slopes}
 use Rattle.curve.specs.declared.Curve.{Curve}
 use Rattle.curve.specs.declared.Curve.the-variants.{None, Straight, FrontLoaded, Delayed}
 use Rattle.curve.proofs.Laws.Order.{le-or-lt}
@@ -121,13 +120,13 @@ past-bends [] t h = refl
 past-bends (S ∷ Ss) t h = omega (arith, past-bend S t (h .0), past-bends Ss t (h .1))
 
 -- the bends and the last slopes are enough
-pub bends-enough : (Ss : List Curve) → EveryBend (λ b. total Ss b ≤ inParts b) Ss → slopes Ss ≤ 65536 → CurvesFit Ss
+pub bends-enough : (Ss : List Curve) → EveryBend (λ b. total Ss b ≤ inParts b) Ss → slopes Ss ≤ whole → CurvesFit Ss
 unfolding CurvesFit
 bends-enough Ss bends last = fit
   where
     step : (t : ℕ) → total Ss t ≤ inParts t → Next (λ b. total Ss b ≤ inParts b) t Ss → total Ss (t + 1) ≤ inParts (t + 1)
     step t h (never n) = omega (arith, past-bends Ss t n)
-    step t h (first e l p c) = at (le-or-lt (line .slope) 65536)
+    step t h (first e l p c) = at (le-or-lt (line .slope) whole)
       where
         line : StraightOn (total Ss) t e
         line = sum-straight Ss t e c
@@ -141,7 +140,7 @@ bends-enough Ss bends last = fit
         k : ℕ
         k = e - (t + 1)
 
-        at : (line .slope ≤ 65536) ⊎ (65536 < line .slope) → total Ss (t + 1) ≤ inParts (t + 1)
+        at : (line .slope ≤ whole) ⊎ (whole < line .slope) → total Ss (t + 1) ≤ inParts (t + 1)
         at (inl s) = let q : t + 1 - t ≡ 1 = omega arith in omega (arith, one, ap (λ z. line .slope * z) q)
         at (inr s) =
             let q : t + 1 - t ≡ 1 = omega arith in
@@ -170,15 +169,15 @@ lasts-grow [] d x b = omega arith
 lasts-grow (S ∷ Ss) d x b = omega (arith, last-grows S d x (omega arith), lasts-grow Ss d x (omega arith))
 
 -- curves whose last slopes are too steep pass the link's rate in the end
-pub slopes-needed : (Ss : List Curve) → CurvesFit Ss → slopes Ss ≤ 65536
+pub slopes-needed : (Ss : List Curve) → CurvesFit Ss → slopes Ss ≤ whole
 unfolding CurvesFit
-slopes-needed Ss fit = ⊎-elim (λ h. h) (λ h. absurd (late h)) (le-or-lt (slopes Ss) 65536)
+slopes-needed Ss fit = ⊎-elim (λ h. h) (λ h. absurd (late h)) (le-or-lt (slopes Ss) whole)
   where
-    late : 65536 < slopes Ss → ⊥
+    late : whole < slopes Ss → ⊥
     late h =
         let d = top Ss in
-        let x = 65536 * d + 1 in
-        omega (arith, fit (d + x), lasts-grow Ss d x (le-refl d), mul-le-mul-right {m = 65537} {n = slopes Ss} x h)
+        let x = whole * d + 1 in
+        omega (arith, fit (d + x), lasts-grow Ss d x (le-refl d), mul-le-mul-right {m = suc whole} {n = slopes Ss} x h)
 
 -- curves that fit, at each tick and at one
 pub fit-each : (Ss : List Curve) → ((t : ℕ) → total Ss t ≤ inParts t) → CurvesFit Ss

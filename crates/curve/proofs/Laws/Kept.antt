@@ -9,8 +9,9 @@ use native.Mathlib.Omega.{arith}
 use lib.Dec.{leb}
 use borrow.Author.Tests.{le-leb, lt-leb}
 use Rattle.curve.specs.Answers.{Least}
-use Rattle.curve.specs.Curves.{amount, inParts, Rising, RightRate}
-use Rattle.curve.specs.Pieces.{standing, EveryPiece, latest, Due, Ripe, Deadline, Eligible, VirtualTime, lead, Follows, Orderly, choose, lowerOf, lowest, firstSlope, lastSlope, keptOf, keptWith, Stands, BothStand, early}
+use Rattle.curve.specs.Curves.{amount, inParts, Rising, RightRate, firstSlope, lastSlope}
+use Rattle.curve.specs.Pieces.{standing, EveryPiece, latest, Due, Ripe, Deadline, Eligible, VirtualTime, lead}
+use Rattle.curve.specs.Keeping.{Follows, Orderly, choose, lowerOf, lowest, keptOf, keptWith, Stands, BothStand, early}
 use Rattle.curve.specs.declared.Curve.{Curve}
 use Rattle.curve.specs.declared.Curve.the-variants.{None, Straight, FrontLoaded, Delayed}
 use Rattle.curve.specs.declared.Piece.{Piece}

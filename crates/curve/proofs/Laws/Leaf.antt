@@ -6,8 +6,9 @@ use mathlib.Core.List.{List, [], _∷_}
 use mathlib.Core.Logic.{_⊎_, inl, inr, ⊎-elim}
 use native.Mathlib.Nat.{le-trans, le-refl, mul-le-mul-left}
 use native.Mathlib.Omega.{arith}
-use Rattle.curve.specs.Curves.{amount, inParts, Rising}
-use Rattle.curve.specs.Pieces.{standing, EveryPiece, latest, Due, Deadline, Eligible, lead, Orderly}
+use Rattle.curve.specs.Curves.{whole, amount, inParts, Rising}
+use Rattle.curve.specs.Pieces.{standing, EveryPiece, latest, Due, Deadline, Eligible, lead}
+use Rattle.curve.specs.Keeping.{Orderly}
 use Rattle.curve.specs.declared.Curve.{Curve}
 use Rattle.curve.specs.declared.Piece.{Piece}
 use Rattle.curve.proofs.Laws.Order.{le-or-lt}
@@ -32,7 +33,7 @@ by-deadline {D = D} h d = h .least D d
 -- a leaf is eligible before its head is due
 pub eligible-deadline : {S : Curve} {ps : List Piece} {c b e d : ℕ} → c ≤ b → Eligible S ps c e → Deadline S ps b d → e ≤ d
 eligible-deadline {S} {ps} {d = d} l h k =
-    h .least d (record { after = k .holds .after; every = every-mono S ps (omega arith) (mul-le-mul-left 65536 l) (k .holds .every) })
+    h .least d (record { after = k .holds .after; every = every-mono S ps (omega arith) (mul-le-mul-left whole l) (k .holds .every) })
 
 -- a piece is in a list
 unfoldable pub In : Piece → List Piece → Type 0

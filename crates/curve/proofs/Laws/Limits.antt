@@ -3,7 +3,7 @@
 use Prim.Native.Nat.{ℕ, suc}
 use mathlib.Core.Path.{_≡_, refl}
 use native.Mathlib.Decide.{decLe, map-dec}
-use Rattle.curve.specs.Curves.{Within, RightRate, RightBend, RightFront, RightDelay, RightCurve, Rising}
+use Rattle.curve.specs.Curves.{whole, latestBend, Within, RightRate, RightBend, RightFront, RightDelay, RightCurve, Rising}
 use Rattle.curve.specs.declared.Curve.{Curve}
 use Rattle.curve.specs.declared.Curve.the-variants.{None, Straight, FrontLoaded, Delayed}
 
@@ -58,10 +58,10 @@ pub within-decided : (low high x : ℕ) → Dec (Within low high x)
 within-decided low high x = map-dec (λ p. record { above = p .0; below = p .1 }) (λ w. (w .above, w .below)) (both-decided (decLe low x) (decLe x high))
 
 pub rate-decided : (m : ℕ) → Dec (RightRate m)
-rate-decided m = within-decided 1 65536 m
+rate-decided m = within-decided 1 whole m
 
 bend-decided : (d : ℕ) → Dec (RightBend d)
-bend-decided d = within-decided 1 1048576 d
+bend-decided d = within-decided 1 latestBend d
 
 pub right-decided : (S : Curve) → Dec (RightCurve S)
 unfolding RightCurve

@@ -3,7 +3,8 @@
 use Prim.Native.Nat.{ℕ, _≤_}
 use mathlib.Core.List.{List, [], _∷_}
 use native.Mathlib.Omega.{arith}
-use Rattle.curve.specs.Pieces.{standing, EveryPiece, latest, latestSent, Follows, Orderly}
+use Rattle.curve.specs.Pieces.{standing, EveryPiece, latest}
+use Rattle.curve.specs.Keeping.{latestSent, Follows, Orderly}
 use Rattle.curve.specs.declared.Curve.{Curve}
 use Rattle.curve.specs.declared.Piece.{Piece}
 

@@ -6,8 +6,9 @@ use native.Mathlib.Nat.{le-trans}
 use native.Mathlib.Omega.{arith}
 use borrow.Author.Tests.{le-leb, lt-leb}
 use Rattle.curve.specs.Answers.{Least, NotBefore}
-use Rattle.curve.specs.Curves.{amount, inParts, Rising, Reaches}
-use Rattle.curve.specs.Pieces.{standing, lowerOf, Stands, BothStand, early}
+use Rattle.curve.specs.Curves.{latestBend, amount, inParts, Rising}
+use Rattle.curve.specs.Pieces.{standing}
+use Rattle.curve.specs.Keeping.{Reaches, lowerOf, Stands, BothStand, early}
 use Rattle.curve.specs.declared.Curve.{Curve}
 use Rattle.curve.specs.declared.Curve.the-variants.{Straight, FrontLoaded, Delayed}
 use Rattle.curve.specs.declared.Piece.{Piece}
@@ -16,9 +17,9 @@ use Rattle.curve.proofs.Laws.Answers.{least-after}
 use Rattle.curve.proofs.Laws.Amount.{amount-mono, rising-reaches}
 
 -- an earliest tick is at most 2^20 past the parts, or the tick that it was asked from
-pub earliest-most : (S : Curve) → Rising S → {y from e : ℕ} → Least (NotBefore from (Reaches S y)) e → e ≤ max from (y + 1048576)
+pub earliest-most : (S : Curve) → Rising S → {y from e : ℕ} → Least (NotBefore from (Reaches S y)) e → e ≤ max from (y + latestBend)
 earliest-most S r {y} {from} h =
-    h .least (max from (y + 1048576)) (record { after = omega arith; holds = le-trans (rising-reaches S r y) (amount-mono S (omega arith)) })
+    h .least (max from (y + latestBend)) (record { after = omega arith; holds = le-trans (rising-reaches S r y) (amount-mono S (omega arith)) })
 
 -- a fair piece: "65,536·w then, plus share·(v − mark)"
 pub standing-straight : (m : ℕ) (p : Piece) (t : ℕ) → standing (Straight m) p t ≡ inParts (p .sent) + m * (t - p .start)

@@ -8,8 +8,9 @@ use mathlib.Core.Path.{_≡_}
 use mathlib.Core.Logic.{_⊎_, inl, inr, ⊎-elim}
 use mathlib.Core.List.{List, [], _∷_}
 use Rattle.curve.specs.Answers.{Least}
-use Rattle.curve.specs.Curves.{inParts, Rising}
-use Rattle.curve.specs.Pieces.{standing, EveryPiece, latest, Due, Ripe, Deadline, Eligible, lead, Follows, Orderly}
+use Rattle.curve.specs.Curves.{latestBend, inParts, Rising}
+use Rattle.curve.specs.Pieces.{standing, EveryPiece, latest, Due, Ripe, Deadline, Eligible, lead}
+use Rattle.curve.specs.Keeping.{Follows, Orderly}
 use Rattle.curve.specs.declared.Curve.{Curve}
 use Rattle.curve.specs.declared.Piece.{Piece}
 use Rattle.curve.proofs.Laws.Order.{le-or-lt}
@@ -65,20 +66,20 @@ unfolding top
 latest-top [] = omega arith
 latest-top (p ∷ ps) = omega arith
 
-late-enough : (S : Curve) → Rising S → (ps : List Piece) (y t : ℕ) → top ps + (y + 1048576) ≤ t → EveryPiece S ps t y
+late-enough : (S : Curve) → Rising S → (ps : List Piece) (y t : ℕ) → top ps + (y + latestBend) ≤ t → EveryPiece S ps t y
 unfolding EveryPiece standing top
 late-enough S r [] y t h = tt
 late-enough S r (p ∷ ps) y t h =
-    (omega (arith, rising-reaches S r y, amount-mono S {t = y + 1048576} {u = t - p .start} (omega arith)), late-enough S r ps y t (omega arith))
+    (omega (arith, rising-reaches S r y, amount-mono S {t = y + latestBend} {u = t - p .start} (omega arith)), late-enough S r ps y t (omega arith))
 
 pub deadline-exists : (S : Curve) → Rising S → (ps : List Piece) (bytes : ℕ) → (t : ℕ) × Deadline S ps bytes t
 deadline-exists S r ps bytes =
-    least-exists (Due S ps bytes) (due-decided S ps bytes) (top ps + (inParts bytes + 1048576))
+    least-exists (Due S ps bytes) (due-decided S ps bytes) (top ps + (inParts bytes + latestBend))
     (record { after = omega (arith, latest-top ps); every = late-enough S r ps (inParts bytes) _ (omega arith) })
 
 pub eligible-exists : (S : Curve) → Rising S → (ps : List Piece) (bytes : ℕ) → (t : ℕ) × Eligible S ps bytes t
 eligible-exists S r ps bytes =
-    least-exists (Ripe S ps bytes) (ripe-decided S ps bytes) (top ps + (inParts bytes + 1048576))
+    least-exists (Ripe S ps bytes) (ripe-decided S ps bytes) (top ps + (inParts bytes + latestBend))
     (record { after = omega (arith, latest-top ps); every = late-enough S r ps (inParts bytes) _ (omega arith) })
 
 -- a deadline is not far past the latest piece
@@ -89,7 +90,7 @@ top-latest (p ∷ []) order = omega arith
 top-latest (p ∷ q ∷ ps) order = omega (arith, top-latest (q ∷ ps) (order .1), order .0 .0)
 
 pub deadline-most : (S : Curve) → Rising S → (ps : List Piece) (bytes now : ℕ) {d : ℕ} → Orderly ps → latest ps ≤ now → Deadline S ps bytes d
-    → d ≤ now + (inParts bytes + 1048576)
+    → d ≤ now + (inParts bytes + latestBend)
 deadline-most S r ps bytes now order after deadline =
-    deadline .least (now + (inParts bytes + 1048576))
+    deadline .least (now + (inParts bytes + latestBend))
     (record { after = omega arith; every = late-enough S r ps (inParts bytes) _ (omega (arith, top-latest ps order)) })

@@ -40,35 +40,37 @@ claims t = (
 )
 
 raise-from-get-requires : (t : ℕ) → raise-from-lts.Need-get-requires (claims t) (raise-from-at t) raise-from.Post
-raise-from-get-requires t c κs = (lifting-narrow (c .before .pre .1 .before), omega arith)
+raise-from-get-requires t c κs = (lifting-narrow (c .before .pre .1 .holds .holds), omega arith)
 
 raise-from-add-put : (t : ℕ) → raise-from-lts.Need-add-put (claims t) (raise-from-at t) raise-from.Post
-raise-from-add-put t c = record { fits = omega (arith, lifting-sum (c .before .before .before .pre .1 .before), c .before .get .ensures) }
+raise-from-add-put t c = record { fits = omega (arith, lifting-sum (c .before .before .before .pre .1 .holds .holds), c .before .get .ensures) }
 
 raise-from-put-requires : (t : ℕ) → raise-from-lts.Need-put-requires (claims t) (raise-from-at t) raise-from.Post
-raise-from-put-requires t c κs = (lifting-narrow (c .before .before .before .pre .1 .before), omega arith)
+raise-from-put-requires t c κs = (lifting-narrow (c .before .before .before .pre .1 .holds .holds), omega arith)
 
 raise-from-returns : (t : ℕ) → raise-from-lts.Need-returns (claims t) (raise-from-at t) raise-from.Post
 raise-from-returns t c = λ tree cs leaf b. lifted-last b (c .before .before .before .get .ensures) (c .before .put .ensures) (c .if1 .taken)
 
 raise-from-bring-up-requires : (t : ℕ) → raise-from-lts.Need-bring-up-requires (claims t) (raise-from-at t) raise-from.Post
 raise-from-bring-up-requires t c κs =
-    raises-here (c .before .before .before .before .before .before .pre .1 .before) (c .before .before .before .before .get .ensures) (c .before .before .put .ensures) (some-of (c .before .if1 .left))
+    raises-here (c .before .before .before .before .before .before .pre .1 .holds .holds) (c .before .before .before .before .get .ensures) (c .before .before .put .ensures) (some-of (c .before .if1 .left))
 
 raise-from-get-requires-2 : (t : ℕ) → raise-from-lts.Need-get-requires-2 (claims t) (raise-from-at t) raise-from.Post
-raise-from-get-requires-2 t c κs = (lifting-narrow (c .before .before .before .before .before .before .before .before .pre .1 .before), omega arith)
+raise-from-get-requires-2 t c κs = (lifting-narrow (c .before .before .before .before .before .before .before .before .pre .1 .holds .holds), omega arith)
 
 raise-from-raise-from-requires : (t : ℕ) → raise-from-lts.Need-raise-from-requires (claims t) (raise-from-at t) raise-from.Post
 raise-from-raise-from-requires t c κs = (
   rw (c .before .before .before .before .before .before .before .before .before .before .pre .0) at
-      (falls-step (c .before .before .before .before .before .before .before .before .before .before .pre .1 .before) (c .before .before .before .before .before .before .before .before .get .ensures) (c .before .before .before .before .before .before .put .ensures) (some-of (c .before .before .before .before .before .if1 .left)) (c .before .before .before .bring-up .ensures)
+      (falls-step (c .before .before .before .before .before .before .before .before .before .before .pre .1 .holds .holds) (c .before .before .before .before .before .before .before .before .get .ensures) (c .before .before .before .before .before .before .put .ensures) (some-of (c .before .before .before .before .before .if1 .left)) (c .before .before .before .bring-up .ensures)
       (c .before .get2 .result) (c .before .get2 .ensures)),
   record {
     tree = c .before .before .before .before .before .before .before .before .before .before .pre .1 .tree;
     calls = c .before .before .before .before .before .before .before .before .before .before .pre .1 .calls;
-    leaf = c .before .before .before .before .before .before .before .before .before .before .pre .1 .leaf;
-    before = lifting-step (c .before .before .before .before .before .before .before .before .before .before .pre .1 .before) (c .before .before .before .before .before .before .before .before .get .ensures) (c .before .before .before .before .before .before .put .ensures) (some-of (c .before .before .before .before .before .if1 .left)) (c .before .before .before .bring-up .ensures)
-        (c .before .get2 .result) (c .before .get2 .ensures);
+    holds = record {
+      it = c .before .before .before .before .before .before .before .before .before .before .pre .1 .holds .it;
+      holds = lifting-step (c .before .before .before .before .before .before .before .before .before .before .pre .1 .holds .holds) (c .before .before .before .before .before .before .before .before .get .ensures) (c .before .before .before .before .before .before .put .ensures) (some-of (c .before .before .before .before .before .if1 .left)) (c .before .before .before .bring-up .ensures)
+          (c .before .get2 .result) (c .before .get2 .ensures);
+    };
   },
 )
 

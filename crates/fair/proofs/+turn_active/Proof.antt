@@ -44,34 +44,36 @@ turn-active-returns : (t : ℕ) → turn-active-lts.Need-returns (claims t) (tur
 turn-active-returns t c = λ tree cs j b. turned-root (c .if1 .taken) b
 
 turn-active-get-requires : (t : ℕ) → turn-active-lts.Need-get-requires (claims t) (turn-active-at t) turn-active.Post
-turn-active-get-requires t c κs = (turn-narrow (c .before .before .pre .1 .before), omega arith)
+turn-active-get-requires t c κs = (turn-narrow (c .before .before .pre .1 .holds .holds), omega arith)
 
 turn-active-get-requires-2 : (t : ℕ) → turn-active-lts.Need-get-requires-2 (claims t) (turn-active-at t) turn-active.Post
-turn-active-get-requires-2 t c κs = (turn-parent (c .before .before .before .before .pre .1 .before) (c .before .get .result) (c .before .get .ensures), omega arith)
+turn-active-get-requires-2 t c κs = (turn-parent (c .before .before .before .before .pre .1 .holds .holds) (c .before .get .result) (c .before .get .ensures), omega arith)
 
 turn-active-start-fair-requires : (t : ℕ) → turn-active-lts.Need-start-fair-requires (claims t) (turn-active-at t) turn-active.Post
 turn-active-start-fair-requires t c κs =
-    record { tree = c .before .before .before .before .before .before .pre .1 .tree; before = turn-start (c .before .before .before .before .before .before .pre .1 .before) (c .before .before .before .before .before .if1 .left) (c .before .before .before .get .result) (c .before .before .before .get .ensures) }
+    record { it = c .before .before .before .before .before .before .pre .1 .tree; holds = turn-start (c .before .before .before .before .before .before .pre .1 .holds .holds) (c .before .before .before .before .before .if1 .left) (c .before .before .before .get .result) (c .before .before .before .get .ensures) }
 
 turn-active-add-put : (t : ℕ) → turn-active-lts.Need-add-put (claims t) (turn-active-at t) turn-active.Post
 turn-active-add-put t c =
-    record { fits = turn-busy (c .before .before .before .before .before .before .before .before .pre .1 .before) (c .before .before .before .before .before .before .before .if1 .left) (c .before .before .before .before .before .get .result) (c .before .before .before .before .before .get .ensures) (c .before .before .before .get2 .result) (c .before .before .before .get2 .ensures) }
+    record { fits = turn-busy (c .before .before .before .before .before .before .before .before .pre .1 .holds .holds) (c .before .before .before .before .before .before .before .if1 .left) (c .before .before .before .before .before .get .result) (c .before .before .before .before .before .get .ensures) (c .before .before .before .get2 .result) (c .before .before .before .get2 .ensures) }
 
 turn-active-put-requires : (t : ℕ) → turn-active-lts.Need-put-requires (claims t) (turn-active-at t) turn-active.Post
-turn-active-put-requires t c κs = (turn-parent (c .before .before .before .before .before .before .before .before .pre .1 .before) (c .before .before .before .before .before .get .result) (c .before .before .before .before .before .get .ensures), omega arith)
+turn-active-put-requires t c κs = (turn-parent (c .before .before .before .before .before .before .before .before .pre .1 .holds .holds) (c .before .before .before .before .before .get .result) (c .before .before .before .before .before .get .ensures), omega arith)
 
 turn-active-turn-active-requires : (t : ℕ) → turn-active-lts.Need-turn-active-requires (claims t) (turn-active-at t) turn-active.Post
 turn-active-turn-active-requires t c κs =
-    let b = c .before .before .before .before .before .before .before .before .before .before .before .pre .1 .before in (
+    let b = c .before .before .before .before .before .before .before .before .before .before .before .pre .1 .holds .holds in (
       subst (λ (x : ℕ). c .before .before .before .before .before .before .before .before .get .result < x) (c .before .before .before .before .before .before .before .before .before .before .before .pre .0) (turn-lower b (c .before .before .before .before .before .before .before .before .before .before .if1 .left) (c .before .before .before .before .before .before .before .before .get .result) (c .before .before .before .before .before .before .before .before .get .ensures)),
       record {
         tree = c .before .before .before .before .before .before .before .before .before .before .before .pre .1 .tree;
         calls = c .before .before .before .before .before .before .before .before .before .before .before .pre .1 .calls;
-        leaf = c .before .before .before .before .before .before .before .before .before .before .before .pre .1 .leaf;
-        before =
-            turn-on b (c .before .before .before .before .before .before .before .before .before .before .if1 .left) (c .before .before .before .before .before .before .before .before .get .result) (c .before .before .before .before .before .before .before .before .get .ensures) (c .before .before .before .before .before .before .get2 .result) (c .before .before .before .before .before .before .get2 .ensures) _ _
-            (c .before .before .before .before .start-fair .ensures (c .before .before .before .before .before .before .before .before .before .before .before .pre .1 .tree) (turn-start b (c .before .before .before .before .before .before .before .before .before .before .if1 .left) (c .before .before .before .before .before .before .before .before .get .result) (c .before .before .before .before .before .before .before .before .get .ensures)))
-            (c .before .before .put .ensures) (c .before .if2 .taken);
+        holds = record {
+          it = c .before .before .before .before .before .before .before .before .before .before .before .pre .1 .holds .it;
+          holds =
+              turn-on b (c .before .before .before .before .before .before .before .before .before .before .if1 .left) (c .before .before .before .before .before .before .before .before .get .result) (c .before .before .before .before .before .before .before .before .get .ensures) (c .before .before .before .before .before .before .get2 .result) (c .before .before .before .before .before .before .get2 .ensures) _ _
+              (c .before .before .before .before .start-fair .ensures (c .before .before .before .before .before .before .before .before .before .before .before .pre .1 .tree) (turn-start b (c .before .before .before .before .before .before .before .before .before .before .if1 .left) (c .before .before .before .before .before .before .before .before .get .result) (c .before .before .before .before .before .before .before .before .get .ensures)))
+              (c .before .before .put .ensures) (c .before .if2 .taken);
+        };
       },
     )
 

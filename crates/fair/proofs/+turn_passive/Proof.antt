@@ -46,32 +46,34 @@ turn-passive-returns : (t : ℕ) → turn-passive-lts.Need-returns (claims t) (t
 turn-passive-returns t c = λ tree cs leaf b. passed-root (c .if1 .taken) b
 
 turn-passive-get-requires : (t : ℕ) → turn-passive-lts.Need-get-requires (claims t) (turn-passive-at t) turn-passive.Post
-turn-passive-get-requires t c κs = (passing-narrow (c .before .before .pre .1 .before), omega arith)
+turn-passive-get-requires t c κs = (passing-narrow (c .before .before .pre .1 .holds .holds), omega arith)
 
 turn-passive-get-requires-2 : (t : ℕ) → turn-passive-lts.Need-get-requires-2 (claims t) (turn-passive-at t) turn-passive.Post
 turn-passive-get-requires-2 t c κs =
-    (lt-trans (passing-falls (c .before .before .before .before .pre .1 .before) (c .before .get .result) (c .before .get .ensures) (some-of (c .before .before .before .if1 .left))) (passing-narrow (c .before .before .before .before .pre .1 .before)), omega arith)
+    (lt-trans (passing-falls (c .before .before .before .before .pre .1 .holds .holds) (c .before .get .result) (c .before .get .ensures) (some-of (c .before .before .before .if1 .left))) (passing-narrow (c .before .before .before .before .pre .1 .holds .holds)), omega arith)
 
 turn-passive-sub-busy : (t : ℕ) → turn-passive-lts.Need-sub-busy (claims t) (turn-passive-at t) turn-passive.Post
 turn-passive-sub-busy t c =
-    let less = one-less (c .before .before .before .before .before .pre .1 .before) (c .before .before .get .result) (c .before .before .get .ensures) (some-of (c .before .before .before .before .if1 .left)) 0 Fair in
+    let less = one-less (c .before .before .before .before .before .pre .1 .holds .holds) (c .before .before .get .result) (c .before .before .get .ensures) (some-of (c .before .before .before .before .if1 .left)) 0 Fair in
     omega (arith, c .get2 .ensures)
 
 turn-passive-put-requires : (t : ℕ) → turn-passive-lts.Need-put-requires (claims t) (turn-passive-at t) turn-passive.Post
 turn-passive-put-requires t c κs =
-    (lt-trans (passing-falls (c .before .before .before .before .before .before .pre .1 .before) (c .before .before .before .get .result) (c .before .before .before .get .ensures) (some-of (c .before .before .before .before .before .if1 .left))) (passing-narrow (c .before .before .before .before .before .before .pre .1 .before)), omega arith)
+    (lt-trans (passing-falls (c .before .before .before .before .before .before .pre .1 .holds .holds) (c .before .before .before .get .result) (c .before .before .before .get .ensures) (some-of (c .before .before .before .before .before .if1 .left))) (passing-narrow (c .before .before .before .before .before .before .pre .1 .holds .holds)), omega arith)
 
 turn-passive-turn-passive-requires : (t : ℕ) → turn-passive-lts.Need-turn-passive-requires (claims t) (turn-passive-at t) turn-passive.Post
 turn-passive-turn-passive-requires t c κs = (
-  rw (c .before .before .before .before .before .before .before .before .before .pre .0) at (passing-falls (c .before .before .before .before .before .before .before .before .before .pre .1 .before) (c .before .before .before .before .before .before .get .result) (c .before .before .before .before .before .before .get .ensures) (some-of (c .before .before .before .before .before .before .before .before .if1 .left))),
+  rw (c .before .before .before .before .before .before .before .before .before .pre .0) at (passing-falls (c .before .before .before .before .before .before .before .before .before .pre .1 .holds .holds) (c .before .before .before .before .before .before .get .result) (c .before .before .before .before .before .before .get .ensures) (some-of (c .before .before .before .before .before .before .before .before .if1 .left))),
   record {
     tree = c .before .before .before .before .before .before .before .before .before .pre .1 .tree;
     calls = c .before .before .before .before .before .before .before .before .before .pre .1 .calls;
-    leaf = c .before .before .before .before .before .before .before .before .before .pre .1 .leaf;
-    before =
-        passing-step (c .before .before .before .before .before .before .before .before .before .pre .1 .before) (c .before .before .before .before .before .before .get .result) (c .before .before .before .before .before .before .get .ensures) (some-of (c .before .before .before .before .before .before .before .before .if1 .left))
-        (c .before .before .before .before .get2 .result - 1) (ap (λ (x : ℕ). x - 1) (c .before .before .before .before .get2 .ensures))
-        (c .before .before .put .ensures) (c .before .if2 .taken);
+    holds = record {
+      it = c .before .before .before .before .before .before .before .before .before .pre .1 .holds .it;
+      holds =
+          passing-step (c .before .before .before .before .before .before .before .before .before .pre .1 .holds .holds) (c .before .before .before .before .before .before .get .result) (c .before .before .before .before .before .before .get .ensures) (some-of (c .before .before .before .before .before .before .before .before .if1 .left))
+          (c .before .before .before .before .get2 .result - 1) (ap (λ (x : ℕ). x - 1) (c .before .before .before .before .get2 .ensures))
+          (c .before .before .put .ensures) (c .before .if2 .taken);
+    };
   },
 )
 

@@ -9,8 +9,7 @@ raise-from-requires c κs =
     record {
       tree = c .before .pre .tree;
       calls = c .before .pre .calls;
-      leaf = c .before .args .leaf;
-      before = raise-lifting (c .before .pre .before);
+      holds = record { it = c .before .args .leaf; holds = raise-lifting (c .before .pre .holds) };
     }
 
 returns : tie.Need-returns

@@ -6,15 +6,14 @@ use Rattle.fair.proofs.rest.Statement.{statement}
 use Rattle.fair.proofs.rest.Tie as tie
 
 put-requires : tie.Need-put-requires
-put-requires c κs = (resting-narrow (c .before .pre .before), omega arith)
+put-requires c κs = (resting-narrow (c .before .pre .holds), omega arith)
 
 turn-passive-requires : tie.Need-turn-passive-requires
 turn-passive-requires c κs =
     record {
       tree = c .before .before .before .pre .tree;
       calls = c .before .before .before .pre .calls;
-      leaf = c .before .before .before .args .leaf;
-      before = rest-begun (c .before .before .before .pre .before) (c .before .put .ensures);
+      holds = record { it = c .before .before .before .args .leaf; holds = rest-begun (c .before .before .before .pre .holds) (c .before .put .ensures) };
     }
 
 returns : tie.Need-returns

@@ -12,16 +12,17 @@ use Rattle.fair.proofs.spread_of.Tie as tie
 use Rattle.fair.proofs.spread_of.Reads as reads
 use Rattle.fair.proofs.spread_of.Lts as lts
 use Rattle.fair.proofs.spread_with.Reads as spread-with-reads
+use Rattle.state.specs.Table.{CLASSES}
 use Rattle.state.proofs.table.get.Reads as get-reads
 
 abbrev Inv-loop : tie.InvT-loop
 Inv-loop words parent class s₀ child₀ s child = (tree : Tree) → Family words tree parent → Gathered words tree parent class s child
 
 abbrev μ-loop : tie.MeasureT-loop
-μ-loop words parent class s₀ child₀ s child = (64 - child) % 64
+μ-loop words parent class s₀ child₀ s child = (CLASSES - child) % CLASSES
 
 get-requires : tie.Need-get-requires Inv-loop μ-loop
-get-requires c κs = (omega (arith, c .pre .family .class, c .pre .family .right .count .below), omega arith)
+get-requires c κs = (omega (arith, c .pre .holds .class, c .pre .holds .right .shape .count .below), omega arith)
 
 loop-holds : tie.Need-loop-holds Inv-loop μ-loop
 loop-holds c = λ tree family.

@@ -12,7 +12,7 @@ use Rattle.curve.proofs.pieces.lower.Reads as lower-reads
 use Rattle.fair.proofs.bring_up.Reads as bring-up-reads
 use Rattle.fair.proofs.fair_piece.Reads as fair-piece-reads
 use Rattle.fair.proofs.larger.Reads as larger-reads
-use Rattle.fair.proofs.meeting.Reads as meeting-reads
+use Rattle.fair.proofs.mark_by_children.Reads as mark-by-children-reads
 use Rattle.fair.proofs.share_of.Reads as share-of-reads
 use Rattle.state.proofs.table.get.Reads as get-reads
 use Rattle.state.proofs.table.put.Reads as put-reads
@@ -20,8 +20,8 @@ use Rattle.state.proofs.table.put.Reads as put-reads
 get-requires : tie.Need-get-requires
 get-requires c κs = search needs
 
-meeting-requires : tie.Need-meeting-requires
-meeting-requires c κs = search needs
+mark-by-children-requires : tie.Need-mark-by-children-requires
+mark-by-children-requires c κs = search needs
 
 larger-requires : tie.Need-larger-requires
 larger-requires c κs = search needs
@@ -45,24 +45,24 @@ put-requires-2 : tie.Need-put-requires-2
 put-requires-2 c κs = search needs
 
 put-requires-3 : tie.Need-put-requires-3
-put-requires-3 c κs = (c .before .before .before .before .before .before .before .before .before .before .before .before .before .before .before .before .before .pre .before .raises .class, omega arith)
+put-requires-3 c κs = (c .before .before .before .before .before .before .before .before .before .before .before .before .before .before .before .before .before .pre .holds .raises .class, omega arith)
 
 bring-up-requires : tie.Need-bring-up-requires
 bring-up-requires c κs =
-    let b = c .before .before .before .before .before .before .before .before .before .before .before .before .before .before .before .before .before .before .before .pre .before in
-    start-raises (c .before .before .before .before .before .before .before .before .before .before .before .before .before .before .before .before .before .before .before .args .words .now) (c .before .before .before .before .before .before .before .before .before .before .before .before .before .before .before .before .before .before .before .pre .tree) (c .before .before .before .before .before .before .before .before .before .before .before .before .before .before .before .before .before .before .before .args .parent) (c .before .before .before .before .before .before .before .before .before .before .before .before .before .before .before .before .before .before .before .args .class) b _ _ _ (c .before .before .before .before .before .before .before .before .before .before .before .before .before .before .larger .result) (c .before .before .before .before .before .before .before .lower .result)
+    let b = c .before .before .before .before .before .before .before .before .before .before .before .before .before .before .before .before .before .before .before .pre .holds in
+    start-raises (c .before .before .before .before .before .before .before .before .before .before .before .before .before .before .before .before .before .before .before .args .words .now) (c .before .before .before .before .before .before .before .before .before .before .before .before .before .before .before .before .before .before .before .pre .it) (c .before .before .before .before .before .before .before .before .before .before .before .before .before .before .before .before .before .before .before .args .parent) (c .before .before .before .before .before .before .before .before .before .before .before .before .before .before .before .before .before .before .before .args .class) b _ _ _ (c .before .before .before .before .before .before .before .before .before .before .before .before .before .before .larger .result) (c .before .before .before .before .before .before .before .lower .result)
     (c .before .before .before .before .before .put .ensures) (c .before .before .before .put2 .ensures) (c .before .put3 .ensures)
     (c .before .before .before .before .before .before .before .lower .ensures
-    ∙ simp (c .before .before .before .before .before .before .before .before .before .before .share-of .ensures, c .before .before .before .before .before .before .before .before .fair-piece .ensures, c .before .before .before .before .before .before .before .before .before .before .before .before .before .before .larger .ensures, c .before .before .before .before .before .before .before .before .before .before .before .before .get2 .ensures, c .before .before .before .before .before .before .before .before .before .before .before .before .before .before .before .before .before .get .ensures, c .before .before .before .before .before .before .before .before .before .before .before .before .before .before .before .meeting .ensures (c .before .before .before .before .before .before .before .before .before .before .before .before .before .before .before .before .before .before .before .pre .tree) (b .family)))
+    ∙ simp (c .before .before .before .before .before .before .before .before .before .before .share-of .ensures, c .before .before .before .before .before .before .before .before .fair-piece .ensures, c .before .before .before .before .before .before .before .before .before .before .before .before .before .before .larger .ensures, c .before .before .before .before .before .before .before .before .before .before .before .before .get2 .ensures, c .before .before .before .before .before .before .before .before .before .before .before .before .before .before .before .before .before .get .ensures, c .before .before .before .before .before .before .before .before .before .before .before .before .before .before .before .mark-by-children .ensures (c .before .before .before .before .before .before .before .before .before .before .before .before .before .before .before .before .before .before .before .pre .it) (b .family)))
 
 returns : tie.Need-returns
 returns c = λ tree b.
     start-done (c .before .before .before .before .before .before .before .before .before .before .before .before .before .before .before .before .before .before .before .before .args .words .now) tree (c .before .before .before .before .before .before .before .before .before .before .before .before .before .before .before .before .before .before .before .before .args .parent) (c .before .before .before .before .before .before .before .before .before .before .before .before .before .before .before .before .before .before .before .before .args .class) b _ _ _ (c .before .before .before .before .before .before .before .before .before .before .before .before .before .before .before .larger .result) (c .before .before .before .before .before .before .before .before .lower .result)
     (c .before .before .before .before .before .before .put .ensures) (c .before .before .before .before .put2 .ensures) (c .before .before .put3 .ensures)
     (c .before .before .before .before .before .before .before .before .lower .ensures
-    ∙ simp (c .before .before .before .before .before .before .before .before .before .before .before .share-of .ensures, c .before .before .before .before .before .before .before .before .before .fair-piece .ensures, c .before .before .before .before .before .before .before .before .before .before .before .before .before .before .before .larger .ensures, c .before .before .before .before .before .before .before .before .before .before .before .before .before .get2 .ensures, c .before .before .before .before .before .before .before .before .before .before .before .before .before .before .before .before .before .before .get .ensures, c .before .before .before .before .before .before .before .before .before .before .before .before .before .before .before .before .meeting .ensures tree (b .family)))
+    ∙ simp (c .before .before .before .before .before .before .before .before .before .before .before .share-of .ensures, c .before .before .before .before .before .before .before .before .before .fair-piece .ensures, c .before .before .before .before .before .before .before .before .before .before .before .before .before .before .before .larger .ensures, c .before .before .before .before .before .before .before .before .before .before .before .before .before .get2 .ensures, c .before .before .before .before .before .before .before .before .before .before .before .before .before .before .before .before .before .before .get .ensures, c .before .before .before .before .before .before .before .before .before .before .before .before .before .before .before .before .mark-by-children .ensures tree (b .family)))
     _
-    (c .before .before .before .before .before .before .before .before .before .before .before .before .before .before .before .larger .ensures ∙ simp (c .before .before .before .before .before .before .before .before .before .before .before .before .before .before .before .before .before .before .get .ensures, c .before .before .before .before .before .before .before .before .before .before .before .before .before .before .before .before .meeting .ensures tree (b .family)))
+    (c .before .before .before .before .before .before .before .before .before .before .before .before .before .before .before .larger .ensures ∙ simp (c .before .before .before .before .before .before .before .before .before .before .before .before .before .before .before .before .before .before .get .ensures, c .before .before .before .before .before .before .before .before .before .before .before .before .before .before .before .before .mark-by-children .ensures tree (b .family)))
     (c .bring-up .ensures)
 
 pub start-fair-spec : {M : Type 1} → statement M
@@ -70,7 +70,7 @@ start-fair-spec =
     tie.close
     (tie.spec
     get-requires
-    meeting-requires
+    mark-by-children-requires
     larger-requires
     get-requires-2
     share-of-requires

@@ -10,15 +10,14 @@ use Rattle.fair.proofs.turn_active.Reads as turn-active-reads
 use Rattle.state.proofs.table.put.Reads as put-reads
 
 put-requires : tie.Need-put-requires
-put-requires c κs = (wake-narrow (c .before .pre .before), omega arith)
+put-requires c κs = (wake-narrow (c .before .pre .holds), omega arith)
 
 turn-active-requires : tie.Need-turn-active-requires
 turn-active-requires c κs =
     record {
       tree = c .before .before .before .pre .tree;
       calls = c .before .before .before .pre .calls;
-      leaf = c .before .before .before .args .leaf;
-      before = wake-turn (c .before .before .before .pre .before) _ (c .before .put .ensures);
+      holds = record { it = c .before .before .before .args .leaf; holds = wake-turn (c .before .before .before .pre .holds) _ (c .before .put .ensures) };
     }
 
 returns : tie.Need-returns

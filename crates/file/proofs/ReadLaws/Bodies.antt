@@ -4,16 +4,16 @@ use Prim.Native.Nat.{ℕ, zero, suc, _+_, _-_, _≤_, _<_}
 use mathlib.Core.Path.{_≡_, refl, _∙_, sym, ap}
 use mathlib.Core.Bool.{Bool, true, false, cond}
 use mathlib.Core.List.{List, [], _∷_, _++_, append-assoc}
-use native.Mathlib.Nat.{add-zero, add-assoc}
 use native.Mathlib.Numerals.{add-one}
 use lib.ListN.{length, set, replicate, length-append}
 use lib.Seq.{set-at}
 use native.Mathlib.Omega.{arith}
+use Rattle.curve.specs.Codec.{kindCurve}
 use Rattle.tree.specs.Trees.{noClass}
 use Rattle.tree.specs.declared.Class.{Class}
 use Rattle.tree.specs.declared.Tree.{Tree}
-use Rattle.file.specs.Format.{wordAt, orderOf, offsetOf, lengthOf, RightLength, rightKind, bodyClass, fileClass, firstClasses, countOf, treeOf}
-use Rattle.file.specs.Steps.{classFrom, curveFrom}
+use Rattle.file.specs.Format.{orderOf, offsetOf, lengthOf, RightLength, rightKind, bodyClass, fileClass, firstClasses, countOf, treeOf}
+use Rattle.file.specs.Steps.{wordFrom, classFrom}
 use Rattle.file.specs.declared.Order.{Order}
 use Rattle.file.proofs.ReadLaws.KindTable.{least-bytes}
 
@@ -23,10 +23,14 @@ least-length bytes r = omega (arith, least-bytes (r .kind) (r .right .known))
 
 module _ (order : Order) (file : List ℕ) (offset bytes : ℕ) where
   abbrev pub kindAt : ℕ
-  kindAt = wordAt order file (offset + 8)
+  kindAt = wordFrom order file offset 2
 
   abbrev said : Class
-  said = record { parent = wordAt order file offset; share = wordAt order file (offset + 4); curve = curveFrom order file (offset + 12) kindAt }
+  said = record {
+    parent = wordFrom order file offset 0;
+    share = wordFrom order file offset 1;
+    curve = kindCurve kindAt (wordFrom order file offset 3) (wordFrom order file offset 4) (wordFrom order file offset 5);
+  }
 
   pub class-none : rightKind kindAt bytes ≡ false → classFrom order file offset bytes ≡ noClass
   unfolding classFrom
@@ -38,8 +42,8 @@ module _ (order : Order) (file : List ℕ) (offset bytes : ℕ) where
 
 -- the class of a file, by its entry
 pub class-is : (file : List ℕ) (i : ℕ) → classFrom (orderOf file) file (offsetOf file i) (lengthOf file i) ≡ fileClass file i
-unfolding classFrom fileClass bodyClass curveFrom
-class-is file i = simp (add-zero, add-assoc)
+unfolding classFrom fileClass bodyClass
+class-is file i = refl
 
 -- a file's first n classes, and no class above them
 abbrev pub filled : List ℕ → ℕ → List Class

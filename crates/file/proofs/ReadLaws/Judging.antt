@@ -10,7 +10,8 @@ use lib.ListN.{length, getD, List·getD-append}
 use lib.Seq.{getD-at}
 use Rattle.curve.proofs.Laws.Order.{le-or-lt}
 use Rattle.curve.specs.Curves.{Within}
-use Rattle.tree.specs.Rules.{RightClass, LowestFault, Rule, broken, kept, RightTree, Checked, Judged}
+use Rattle.tree.proofs.Rule.{SameBelow, rule-map, every-map, lowest-map}
+use Rattle.tree.specs.Rules.{RightClass, Checking, broken, kept, RightTree, ShapeChecked, Judged}
 use Rattle.tree.specs.Rules as tree-rules
 use Rattle.tree.specs.Trees.{noClass, emptyTree, classAt}
 use Rattle.tree.specs.declared.Class.{Class}
@@ -24,23 +25,9 @@ use Rattle.file.specs.declared.Order.{Order}
 use Rattle.file.proofs.ReadLaws.Bodies.{first-length}
 use Rattle.file.proofs.ReadLaws.KindTable.{kind-right, right-kind}
 
--- the same check with other words for what is kept, what is broken and what comes after
-pub rule-as : {number : ℕ} {K K′ : Type 0} {B B′ : ℕ → Type 0} {N N′ : Verdict → Type 0} {v : Verdict}
-    → (K → K′) → ((i : ℕ) → B i → B′ i) → (N v → N′ v) → Rule number K B N v → Rule number K′ B′ N′ v
-rule-as k b n (broken {i = i} e x) = broken e (b i x)
-rule-as k b n (kept x y) = kept (k x) (n y)
-
 -- the same check with something else after it
-pub rule-next : {number : ℕ} {K : Type 0} {B : ℕ → Type 0} {N N′ : Verdict → Type 0} {v : Verdict} → (N v → N′ v) → Rule number K B N v → Rule number K B N′ v
-rule-next n r = rule-as (λ x. x) (λ i x. x) n r
-
--- a class that is right by one reading, and by another
-lowest-as : {P Q : ℕ → Type 0} {n : ℕ} → ((i : ℕ) → i < n → P i → Q i) → ((i : ℕ) → i < n → Q i → P i) → (i : ℕ) → LowestFault P n i → LowestFault Q n i
-lowest-as to back i l = record {
-  class = l .class;
-  fault = λ q. l .fault (back i (l .class) q);
-  lowest = λ j h. to j (omega (arith, l .class)) (l .lowest j h);
-}
+pub rule-next : {number : ℕ} {K : Type 0} {B : ℕ → Type 0} {N N′ : Verdict → Type 0} {v : Verdict} → (N v → N′ v) → Checking number K B N v → Checking number K B N′ v
+rule-next n r = rule-map (λ x. x) (λ i x. x) (λ k. n) r
 
 refused-right : {why : Refusal} {i : ℕ} → Refused why i ≡ Right → ⊥
 refused-right e = let z : _≡_ {A = ℕ} 0 1 = cc in omega arith
@@ -85,25 +72,28 @@ module _ (file : List ℕ) where
   pub sound-body : (i : ℕ) → i < countOf file → SoundBody file i → tree-rules.RightBody (treeOf file) i
   sound-body i h s = subst⁻¹ (λ (c : Class). RightClass c i) (class-at i h) (right-body i s)
 
+  bodies-same : SameBelow (tree-rules.RightBody (treeOf file)) (SoundBody file) (countOf file)
+  bodies-same = record { to = body-sound; from = sound-body }
+
   -- the checks of the tree, as checks of the file
   pub bodies-judged : (v : Verdict) → Within 2 64 (countOf file) → AllPlaced file → Judged (treeOf file) v → BodyChecks file Passed v
-  unfolding Checked BodyChecks treeOf
+  unfolding ShapeChecked BodyChecks treeOf
   bodies-judged v within placed (broken e b) = absurd (b .fault within)
-  bodies-judged v within placed (kept k rest) = kept placed (rule-as (λ every i h. body-sound i h (every i h)) (lowest-as body-sound sound-body) (λ n. n) rest)
+  bodies-judged v within placed (kept k rest) = kept placed (rule-map (every-map refl bodies-same) (lowest-map refl bodies-same) (λ every n. n) rest)
 
   -- the header's checks are passed, and the rest decides
-  pub header-passed : (Next : Verdict → Type 0) (v : Verdict) → HeaderJudged file Right → Next v → HeaderChecks file Next v
+  pub header-passed : (given : ℕ) (Next : Verdict → Type 0) (v : Verdict) → HeaderJudged file given Right → Next v → HeaderChecks file given Next v
   unfolding HeaderChecks
-  header-passed Next v (kept a (kept b (kept c (kept d (kept e p))))) n = kept a (kept b (kept c (kept d (kept e n))))
+  header-passed given Next v (kept a (kept b (kept c (kept d (kept e p))))) n = kept a (kept b (kept c (kept d (kept e n))))
 
   -- what a header that has passed says
-  pub header-long : HeaderJudged file Right → headerBytes ≤ length file
+  pub header-long : (given : ℕ) → HeaderJudged file given Right → headerBytes ≤ given
   unfolding HeaderChecks
-  header-long (kept a rest) = a
+  header-long given (kept a rest) = a
 
-  pub header-opened : {order : Order} {count : ℕ} → HeaderJudged file Right → order ≡ orderOf file → count ≡ countOf file → Opened file order count
+  pub header-opened : (given : ℕ) {order : Order} {count : ℕ} → HeaderJudged file given Right → order ≡ orderOf file → count ≡ countOf file → Opened file given order count
   unfolding HeaderChecks
-  header-opened (kept a (kept b (kept c (kept d (kept e p))))) own counted = record {
+  header-opened given (kept a (kept b (kept c (kept d (kept e p))))) own counted = record {
     own = own;
     counted = counted;
     within = subst⁻¹ (Within 2 64) counted d;
@@ -111,9 +101,9 @@ module _ (file : List ℕ) where
   }
 
   -- the header is refused
-  pub header-refused : (Next : Verdict → Type 0) (why : Refusal) (i : ℕ) → HeaderJudged file (Refused why i) → HeaderChecks file Next (Refused why i)
+  pub header-refused : (given : ℕ) (Next : Verdict → Type 0) (why : Refusal) (i : ℕ) → HeaderJudged file given (Refused why i) → HeaderChecks file given Next (Refused why i)
   unfolding HeaderChecks
-  header-refused Next why i =
+  header-refused given Next why i =
       rule-next (rule-next (rule-next (rule-next (rule-next (λ p. absurd (refused-right p))))))
 
   -- check 6 is passed
@@ -126,20 +116,13 @@ module _ (file : List ℕ) where
   places-refused why i = rule-next (λ p. absurd (refused-right p))
 
   -- a refusal, with the tree of no classes
-  pub reads-refused : {why : Refusal} {i : ℕ} {v : Verdict} {t : Tree} → FileJudged file (Refused why i) → v ≡ Refused why i → t ≡ emptyTree → ReadsAs file v t
-  reads-refused judged is none = record { judged = subst⁻¹ (FileJudged file) is judged; given = none ∙ ap (treeBy (treeOf file)) (sym is) }
+  pub reads-refused : {why : Refusal} {i : ℕ} {v : Verdict} {t : Tree} → FileJudged file (length file) (Refused why i) → v ≡ Refused why i → t ≡ emptyTree → ReadsAs file v t
+  reads-refused judged is none = record { judged = subst⁻¹ (FileJudged file (length file)) is judged; given = none ∙ ap (treeBy (treeOf file)) (sym is) }
 
-  -- a file that is not refused: its bodies lie in their places, and its tree is right
-  pub file-placed : FileJudged file Right → AllPlaced file
-  unfolding HeaderChecks BodyChecks
-  file-placed (kept a (kept b (kept c (kept d (kept e (kept placed rest)))))) = placed
-
-  pub file-right : FileJudged file Right → RightTree (treeOf file)
+  -- the tree of a file that is not refused is right
+  pub file-right : (given : ℕ) → FileJudged file given Right → RightTree (treeOf file)
   unfolding HeaderChecks BodyChecks treeOf
-  file-right (kept a (kept b (kept c (kept count (kept e (kept placed (kept sound (kept depths (kept places (kept fit p)))))))))) = record {
-    count = count;
-    bodies = λ i h. sound-body i h (sound i h);
-    depths = depths;
-    places = places;
+  file-right given (kept a (kept b (kept c (kept count (kept e (kept placed (kept sound (kept depths (kept places (kept fit p)))))))))) = record {
+    shape = record { count = count; bodies = λ i h. sound-body i h (sound i h); depths = depths; places = places };
     fit = fit;
   }

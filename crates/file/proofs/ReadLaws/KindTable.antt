@@ -1,13 +1,13 @@
--- The table of kinds: a kind that it does not have.
+-- The table of kinds, its last column: the body that a kind has, and the numbers that it has room for.
 -- Assumes nothing.
 use Prim.Native.Nat.{ℕ, zero, suc, _≤_, _<_}
 use mathlib.Core.Bool.{Bool, true, false, _&&_}
-use lib.Dec.{ltb, eqb}
+use lib.Dec.{ltb, eqb, lit≤}
 use borrow.Author.Tests.{lt-ltb, le-ltb, eq-eqb, ne-eqb, ltb-true, eqb-true}
 use mathlib.Core.Path.{_≡_, refl}
 use native.Mathlib.Omega.{arith}
-use Rattle.curve.specs.declared.Curve.the-variants.{None}
-use Rattle.file.specs.Format.{bodyBytes, kindCurve, RightKind, rightKind}
+use Rattle.curve.specs.Codec.{kindCurve}
+use Rattle.file.specs.Format.{bodyBytes, RightKind, rightKind}
 
 pub unknown-bytes : (kind : ℕ) → 4 ≤ kind → 0 ≡ bodyBytes kind
 unfolding bodyBytes
@@ -17,15 +17,6 @@ unknown-bytes (suc (suc zero)) h = absurd (omega arith)
 unknown-bytes (suc (suc (suc zero))) h = absurd (omega arith)
 unknown-bytes (suc (suc (suc (suc kind)))) h = refl
 
--- a kind that is not 1, 2 or 3 has no curve
-pub no-curve : (kind x y z : ℕ) → (kind ≡ 1 → ⊥) → (kind ≡ 2 → ⊥) → (kind ≡ 3 → ⊥) → None ≡ kindCurve kind x y z
-unfolding kindCurve
-no-curve zero x y z h₁ h₂ h₃ = refl
-no-curve (suc zero) x y z h₁ h₂ h₃ = absurd (h₁ refl)
-no-curve (suc (suc zero)) x y z h₁ h₂ h₃ = absurd (h₂ refl)
-no-curve (suc (suc (suc zero))) x y z h₁ h₂ h₃ = absurd (h₃ refl)
-no-curve (suc (suc (suc (suc kind)))) x y z h₁ h₂ h₃ = refl
-
 -- every kind's body holds parent, share and kind
 pub least-bytes : (kind : ℕ) → kind < 4 → 12 ≤ bodyBytes kind
 unfolding bodyBytes
@@ -34,6 +25,16 @@ least-bytes (suc zero) h = omega arith
 least-bytes (suc (suc zero)) h = omega arith
 least-bytes (suc (suc (suc zero))) h = omega arith
 least-bytes (suc (suc (suc (suc kind)))) h = absurd (omega arith)
+
+-- a kind's curve goes by the numbers that its body has room for
+pub curve-room : (kind x y z x′ y′ z′ : ℕ) → (16 ≤ bodyBytes kind → x ≡ x′) → (20 ≤ bodyBytes kind → y ≡ y′) → (24 ≤ bodyBytes kind → z ≡ z′)
+    → kindCurve kind x y z ≡ kindCurve kind x′ y′ z′
+unfolding bodyBytes kindCurve
+curve-room zero x y z x′ y′ z′ hx hy hz = refl
+curve-room (suc zero) x y z x′ y′ z′ hx hy hz = rw (hx (lit≤ tt))
+curve-room (suc (suc zero)) x y z x′ y′ z′ hx hy hz = rw (hx (lit≤ tt), hy (lit≤ tt), hz (lit≤ tt))
+curve-room (suc (suc (suc zero))) x y z x′ y′ z′ hx hy hz = rw (hx (lit≤ tt), hy (lit≤ tt))
+curve-room (suc (suc (suc (suc kind)))) x y z x′ y′ z′ hx hy hz = refl
 
 -- the test of a kind against a length
 pub wrong-kind : (kind bytes : ℕ) → 4 ≤ kind → rightKind kind bytes ≡ false

@@ -1,21 +1,24 @@
 -- Laws on the bytes of bodies: a case for each kind of curve, and the list of classes from its front.
 -- Assumes nothing.
 use Prim.Native.Nat.{ℕ, zero, suc, _+_, _-_, _*_, _≤_}
-use mathlib.Core.Path.{_≡_, refl, _∙_}
-use mathlib.Core.List.{List, [], _++_}
+use mathlib.Core.Path.{_≡_, refl, ap₂, _∙_}
+use mathlib.Core.List.{List, [], _∷_, _++_}
 use native.Mathlib.Numerals.{add-one}
 use native.Mathlib.Nat.{add-zero, add-suc}
 use native.Mathlib.Omega.{arith}
 use lib.Dec.{lit≤}
-use lib.ListN.{length, length-append}
+use lib.ListN.{length, take, length-append}
 use Rattle.curve.specs.declared.Curve.{Curve}
 use Rattle.curve.specs.declared.Curve.the-variants.{None, Straight, FrontLoaded, Delayed}
+use Rattle.curve.specs.declared.codec.Code.{Code}
 use Rattle.tree.specs.declared.Class.{Class}
 use Rattle.tree.specs.declared.Tree.{Tree}
 use Rattle.tree.specs.Trees.{classAt, curveOf}
 use Rattle.file.specs.Format.{entryAt, bodyBytes}
 use Rattle.file.specs.declared.Order.{Order}
-use Rattle.file.specs.Writing.{curveBytes, curveNumbers, bodyWords, bodyPlace, totalBytes, numbered, contentsWords, bodiesWords, fileWords, fileIn}
+use Rattle.file.specs.Writing.{curveBytes, bodyWords, bodyPlace, totalBytes, numbered, contentsWords, bodiesWords, fileWords, fileIn}
+use Rattle.curve.specs.Codec.{curveNumbers, codeOf}
+use Rattle.curve.proofs.Laws.Codec.{code-kind, code-numbers}
 use Rattle.file.proofs.WriteLaws.Words.{length-bytesOf}
 
 -- a body has 12 bytes at least
@@ -45,6 +48,18 @@ numbers-length (Delayed d m) = refl
 pub body-length : (class : Class) → 4 * length (bodyWords class) ≡ curveBytes (class .curve)
 unfolding bodyWords
 body-length class = omega (arith, numbers-length (class .curve))
+
+-- the words of a class with all three numbers of a code
+abbrev pub codeWords : Class → Code → List ℕ
+codeWords class code = class .parent ∷ class .share ∷ code .kind ∷ code .first ∷ code .second ∷ code .third ∷ []
+
+-- of those with its curve's code, the ones that its body has room for are the body's
+pub words-room : (class : Class) (code : Code) (k : ℕ) → code ≡ codeOf (class .curve) → 4 * k ≡ curveBytes (class .curve) → take k (codeWords class code) ≡ bodyWords class
+unfolding bodyWords
+words-room class code k is room =
+    let count : k ≡ length (bodyWords class) = omega (arith, body-length class) in
+    ap₂ (λ (n : ℕ) (x : Code). take n (codeWords class x)) count is
+    ∙ ap₂ (λ (kind : ℕ) (ns : List ℕ). class .parent ∷ class .share ∷ kind ∷ ns) (code-kind (class .curve)) (code-numbers (class .curve))
 
 -- nothing stands before class 0
 pub numbered-none : (words : ℕ → List ℕ) → numbered words 0 ≡ []

@@ -10,17 +10,19 @@ use lib.ListN.{length, getD, length-append}
 use Rattle.curve.specs.Curves.{RightCurve}
 use Rattle.curve.specs.declared.Curve.{Curve}
 use Rattle.curve.specs.declared.Curve.the-variants.{None, Straight, FrontLoaded, Delayed}
+use Rattle.curve.proofs.Laws.Codec.{said-code, kind-known}
 use Rattle.curve.proofs.Laws.Limits.{straight-limits, front-limits, delayed-limits}
 use Rattle.tree.specs.declared.Class.{Class}
 use Rattle.tree.specs.declared.Tree.{Tree}
 use Rattle.tree.specs.Trees.{noClass, classAt, curveOf, SameTree}
 use Rattle.tree.specs.Rules.{RightClass, RightTree}
 use Rattle.file.specs.declared.Order.{Order}
-use Rattle.file.specs.Format.{mark, version, wordAt, orderOf, wordOf, versionOf, countOf, totalOf, entryAt, offsetOf, lengthOf, bodyWord, kindOf, bodyBytes, kindCurve, bodyClass, fileClass, treeOf, RightKind}
-use Rattle.file.specs.Writing.{curveKind, curveNumbers, curveBytes, bodyWords, bodyPlace, totalBytes, headerWords, entryWords, contentsWords, bodiesWords, fileWords}
+use Rattle.file.specs.Format.{mark, version, wordAt, orderOf, wordOf, versionOf, countOf, totalOf, entryAt, offsetOf, lengthOf, bodyWord, kindOf, bodyBytes, bodyClass, fileClass, treeOf, RightKind}
+use Rattle.file.specs.Writing.{curveBytes, bodyWords, bodyPlace, totalBytes, headerWords, entryWords, contentsWords, bodiesWords, fileWords}
+use Rattle.curve.specs.Codec.{kindCurve, curveKind, curveNumbers, codeOf}
 use Rattle.file.proofs.ReadLaws.Judging.{class-at}
-use Rattle.file.proofs.ReadLaws.KindTable.{kind-right}
-use Rattle.file.proofs.WriteLaws.Bodies.{place-most, contents-length, bodies-length, body-most}
+use Rattle.file.proofs.ReadLaws.KindTable.{kind-right, curve-room}
+use Rattle.file.proofs.WriteLaws.Bodies.{place-most, contents-length, bodies-length, body-length, body-most}
 use Rattle.file.proofs.WriteLaws.Spelled.{AllWords, Spells, words-append, words-numbered, spells-left, spells-right, spells-each, spells-word}
 
 -- the numbers of a right curve are words
@@ -30,41 +32,26 @@ numbers-small (Straight m) r = let limits = straight-limits m r in (omega arith,
 numbers-small (FrontLoaded m₁ d m₂) r = let limits = front-limits m₁ d m₂ r in (omega arith, (omega arith, (omega arith, tt)))
 numbers-small (Delayed d m) r = let limits = delayed-limits d m r in (omega arith, (omega arith, tt))
 
-kind-small : (S : Curve) → curveKind S < 4
-kind-small None = lit< tt
-kind-small (Straight m) = lit< tt
-kind-small (FrontLoaded m₁ d m₂) = lit< tt
-kind-small (Delayed d m) = lit< tt
-
 -- the words of a right class's body
 body-small : (class : Class) (i : ℕ) → i < 64 → RightClass class i → AllWords (bodyWords class)
 unfolding RightClass bodyWords
 body-small class zero h r =
-    (omega arith, (omega arith, (omega (arith, kind-small (class .curve)), subst (λ (S : Curve). AllWords (curveNumbers S)) (sym (r .curve)) tt)))
+    (omega arith, (omega arith, (omega (arith, kind-known (class .curve)), subst (λ (S : Curve). AllWords (curveNumbers S)) (sym (r .curve)) tt)))
 body-small class (suc i) h r =
-    (omega arith, (omega arith, (omega (arith, kind-small (class .curve)), numbers-small (class .curve) (r .curve))))
+    (omega arith, (omega arith, (omega (arith, kind-known (class .curve)), numbers-small (class .curve) (r .curve))))
 
 -- every field of a right tree's file is a 32-bit word
 pub file-small : (tree : Tree) → RightTree tree → AllWords (fileWords tree)
 unfolding fileWords
 file-small tree right =
-    let most : tree .count ≤ 64 = right .count .below in
+    let most : tree .count ≤ 64 = right .shape .count .below in
     words-append (headerWords tree ++ contentsWords tree (tree .count)) (bodiesWords tree (tree .count))
     (words-append (headerWords tree) (contentsWords tree (tree .count))
     (lit< tt, (lit< tt, (omega arith, (omega (arith, place-most tree (tree .count)), tt))))
     (words-numbered (entryWords tree) (tree .count)
     λ i h. (omega (arith, place-most tree i), (omega (arith, body-most (curveOf tree i)), tt))))
     (words-numbered (λ (i : ℕ). bodyWords (classAt tree i)) (tree .count)
-    λ i h. body-small (classAt tree i) i (omega arith) (right .bodies i h))
-
--- a curve is what its kind and its numbers say
-curve-said : (S : Curve) (kind : ℕ) (numbers : ℕ → ℕ) → kind ≡ curveKind S → ((j : ℕ) → j < length (curveNumbers S) → numbers j ≡ getD (curveNumbers S) j 0)
-    → kindCurve kind (numbers 0) (numbers 1) (numbers 2) ≡ S
-unfolding kindCurve
-curve-said None kind numbers k n = rw k
-curve-said (Straight m) kind numbers k n = rw (k, n 0 (lit< tt))
-curve-said (FrontLoaded m₁ d m₂) kind numbers k n = rw (k, n 0 (lit< tt), n 1 (lit< tt), n 2 (lit< tt))
-curve-said (Delayed d m) kind numbers k n = rw (k, n 0 (lit< tt), n 1 (lit< tt))
+    λ i h. body-small (classAt tree i) i (omega arith) (right .shape .bodies i h))
 
 module _ (order : Order) (file : List ℕ) (tree : Tree) (ordered : orderOf file ≡ order) (spelled : Spells order file 0 (fileWords tree)) where
   said : (at : ℕ) → wordOf file at ≡ wordAt order file at
@@ -130,19 +117,33 @@ module _ (order : Order) (file : List ℕ) (tree : Tree) (ordered : orderOf file
         let third : 3 + j ≡ suc (suc (suc j)) = omega arith in
         ap (λ (n : ℕ). getD (bodyWords (classAt tree i)) n 0) third
 
+    -- the words of the body that its kind has numbers for are the numbers of the class's curve
+    number-said : (j : ℕ) → 16 + 4 * j ≤ bodyBytes (kindOf file i) → bodyWord file i (3 + j) ≡ getD (curveNumbers (curveOf tree i)) j 0
+    unfolding curveBytes
+    number-said j room = body-said (3 + j) (omega (arith, ap bodyBytes kind-said, body-length (classAt tree i))) ∙ number-at j
+
+    curve-is : kindCurve (kindOf file i) (bodyWord file i 3) (bodyWord file i 4) (bodyWord file i 5) ≡ curveOf tree i
+    unfolding codeOf
+    curve-is =
+        let code = codeOf (curveOf tree i) in
+        curve-room (kindOf file i) (bodyWord file i 3) (bodyWord file i 4) (bodyWord file i 5) (code .first) (code .second) (code .third)
+        (number-said 0) (number-said 1) (number-said 2)
+        ∙ ap (λ (k : ℕ). kindCurve k (code .first) (code .second) (code .third)) kind-said
+        ∙ said-code (curveOf tree i)
+
     -- a body says its class
     pub class-said : bodyClass file i ≡ classAt tree i
     unfolding bodyClass bodyWords
     class-said = λ e. record {
       parent = body-said 0 (omega arith) e;
       share = body-said 1 (omega arith) e;
-      curve = curve-said (curveOf tree i) (kindOf file i) (λ (j : ℕ). bodyWord file i (3 + j)) kind-said (λ j h. body-said (3 + j) (omega arith) ∙ number-at j) e;
+      curve = curve-is e;
     }
 
     pub right-kind : RightKind (kindOf file i) (lengthOf file i)
     unfolding curveBytes
     right-kind = record {
-      known = subst (λ (k : ℕ). k < 4) (sym kind-said) (kind-small (curveOf tree i));
+      known = subst (λ (k : ℕ). k < 4) (sym kind-said) (kind-known (curveOf tree i));
       long = length-said ∙ ap bodyBytes (sym kind-said);
     }
 

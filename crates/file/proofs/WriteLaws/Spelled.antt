@@ -15,17 +15,13 @@ use Rattle.file.specs.declared.Order.{Order}
 use Rattle.file.specs.declared.Order.the-variants.{Big, Little}
 use Rattle.file.specs.Format.{joined, wordAt, mark, orderIf, orderOf}
 use Rattle.file.specs.Writing.{wordBytes, bytesOf, numbered}
+use Rattle.file.specs.Theorems.{AllBytes}
 use Rattle.file.proofs.WriteLaws.Words.{length-word}
 
 -- every word of a list is below 2^32
 abbrev pub AllWords : List ℕ → Type 0
 AllWords [] = Unit {0}
 AllWords (w ∷ ws) = (w < 2 ^ 32) × AllWords ws
-
--- every element of a list is below 256
-abbrev pub AllBytes : List ℕ → Type 0
-AllBytes [] = Unit {0}
-AllBytes (b ∷ bs) = (b < 256) × AllBytes bs
 
 -- from a place on, a file has these words in an order
 abbrev pub Spells : Order → List ℕ → ℕ → List ℕ → Type 0

@@ -8,9 +8,8 @@ use native.Mathlib.Nat.{le-of-suc-le-suc, le-trans, le-of-eq, mul-le-mul-right}
 use native.Mathlib.Omega.{arith}
 use lib.Dec.{ltb, eqb, eqb·zero-suc}
 use lib.ListN.{getD, replicate, getD-replicate}
-use Rattle.curve.specs.Curves.{RightCurve, amount}
+use Rattle.curve.specs.Curves.{RightCurve, amount, firstSlope, lastSlope}
 use Rattle.curve.specs.Fit.{CurvesFit, sumOf}
-use Rattle.curve.specs.Pieces.{firstSlope, lastSlope}
 use Rattle.curve.specs.declared.Curve.{Curve}
 use Rattle.curve.specs.declared.Curve.the-variants.{None}
 use Rattle.curve.proofs.Laws.Amount.{amount-most}
@@ -102,9 +101,12 @@ module _ (n : ℕ) (S : Curve) where
 
   pub star-right : 0 < n → n < 64 → RightCurve S → sumOf steepest (curvesOf (star n S)) ≤ 65536 → RightTree (star n S)
   star-right some few r slopes = record {
-    count = record { above = omega arith; below = omega arith };
-    bodies = star-body r;
-    depths = λ i h. star-depth i;
-    places = λ i h. star-place i;
+    shape =
+        record {
+          count = record { above = omega arith; below = omega arith };
+          bodies = star-body r;
+          depths = λ i h. star-depth i;
+          places = λ i h. star-place i;
+        };
     fit = slopes-fit (curvesOf (star n S)) slopes;
   }

@@ -1,40 +1,31 @@
 // The bodies: the class that each says, and the tree of them all.
 ghost use mathlib.Core.Path.{_≡_};
-ghost use Prim.Native.Nat.{_+_, _≤_};
+ghost use Prim.Native.Nat.{_+_, _*_, _≤_};
 ghost use lib.ListN.{length};
-ghost use Rattle.file.specs.Format.{bodyBytes, treeOf};
-ghost use Rattle.file.specs.Steps.{Opened, Lying, AllPlaced, curveFrom, classFrom};
-use super::contents::KINDS;
-use super::contents::body_bytes;
+ghost use Rattle.file.specs.Format.{treeOf};
+ghost use Rattle.file.specs.Steps.{Opened, Lying, AllPlaced, wordFrom, classFrom};
 use super::entries::Entry;
 use super::entries::next_entry;
 use super::words::word;
 use crate::Order;
 use crate::format::HEADER;
-use curve::Curve;
+use crate::format::body_bytes;
+use curve::codec::KINDS;
+use curve::codec::decode;
 use tree::Class;
 use tree::Tree;
 
-// The curve of a kind, with its numbers, which stand from a place on.
-fn curve_of(order: Order, file: &[u8], at: usize, kind: u32) -> Curve
-    requires { ⌜ at + bodyBytes kind ≤ length (now file) + 12 ⌝ }
-    ensures { λ r. ⌜ r ≡ curveFrom order (now (file .entry)) at kind ⌝ }
+// A word of the body of an entry, by its number; 0 where the body has ended before it.
+fn body_word(order: Order, file: &[u8], entry: Entry, k: u32) -> u32
+    requires { ⌜ entry .offset + entry .bytes ≤ length (now file) ⌝ }
+    requires { ⌜ k ≤ 5 ⌝ }
+    ensures { λ r. ⌜ (4 * k + 4 ≤ entry .bytes → r ≡ wordFrom order (now (file .entry)) (entry .offset) k) ⌝ }
 {
-    match kind {
-        1 => Curve::Straight {
-            rate: word(order, file, at),
-        },
-        2 => Curve::FrontLoaded {
-            first: word(order, file, at),
-            bend: word(order, file, at + 4),
-            last: word(order, file, at + 8),
-        },
-        3 => Curve::Delayed {
-            bend: word(order, file, at),
-            rate: word(order, file, at + 4),
-        },
-        _ => Curve::None,
+    let at = 4 * k;
+    if entry.bytes < at + 4 {
+        return 0;
     }
+    word(order, file, (entry.offset as usize) + (at as usize))
 }
 
 // The class that the body of an entry says; no class where its kind is unknown or against the length.
@@ -42,28 +33,26 @@ fn class_of(order: Order, file: &[u8], entry: Entry) -> Class
     requires { ⌜ Lying (now file) (entry .offset) (entry .bytes) ⌝ }
     ensures { λ r. ⌜ r ≡ classFrom order (now (file .entry)) (entry .offset) (entry .bytes) ⌝ }
 {
-    let at = entry.offset as usize;
-    let bytes = entry.bytes;
-    let kind = word(order, file, at + 8);
+    let kind = body_word(order, file, entry, 2);
     if KINDS <= kind {
         return tree::no_class();
     }
-    if bytes != body_bytes(kind) {
+    if entry.bytes != body_bytes(kind) {
         return tree::no_class();
     }
-    let parent = word(order, file, at);
-    let share = word(order, file, at + 4);
-    let curve = curve_of(order, file, at + 12, kind);
+    let first = body_word(order, file, entry, 3);
+    let second = body_word(order, file, entry, 4);
+    let third = body_word(order, file, entry, 5);
     Class {
-        parent,
-        share,
-        curve,
+        parent: body_word(order, file, entry, 0),
+        share: body_word(order, file, entry, 1),
+        curve: decode(kind, first, second, third),
     }
 }
 
 // The tree of a file whose bodies lie in their places: the entries are walked once more, and each body is read.
 pub(crate) fn tree_of(order: Order, count: u32, file: &[u8]) -> Tree
-    requires { ⌜ Opened (now file) order count ⌝ }
+    requires { ⌜ Opened (now file) (length (now file)) order count ⌝ }
     requires { ⌜ AllPlaced (now file) ⌝ }
     ensures { λ r. ⌜ r ≡ treeOf (now (file .entry)) ⌝ }
 {

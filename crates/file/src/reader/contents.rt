@@ -1,32 +1,19 @@
 // The contents: where each body lies, and the check of it, 6.
 ghost use mathlib.Core.Path.{_≡_};
 ghost use Prim.Native.Nat.{_+_};
+ghost use lib.ListN.{length};
 ghost use Rattle.curve.specs.Answers.{Exactly};
-ghost use Rattle.file.specs.Format.{bodyBytes, RightLength};
+ghost use Rattle.file.specs.Format.{RightLength};
 ghost use Rattle.file.specs.Steps.{Opened, Fitting, PlacesJudged};
 use super::entries::Entry;
 use super::entries::next_entry;
 use crate::Order;
-use crate::format::ENTRY;
 use crate::format::HEADER;
+use crate::format::body_bytes;
+use crate::format::entry_at;
+use curve::codec::KINDS;
 use tree::Refusal;
 use tree::Verdict;
-
-// How many kinds of body there are.
-pub(crate) const KINDS: u32 = 4;
-
-// The bytes of a body of a kind; of an unknown kind, none.
-pub(crate) fn body_bytes(kind: u32) -> u32
-    ensures { λ r. ⌜ r ≡ bodyBytes kind ⌝ }
-{
-    match kind {
-        0 => 12,
-        1 => 16,
-        2 => 24,
-        3 => 20,
-        _ => 0,
-    }
-}
 
 // Whether a body of some kind has this length.
 fn right_length(bytes: u32) -> bool
@@ -69,11 +56,11 @@ fn end_of(entry: Entry) -> usize
 
 // Check 6: the entries are walked one after another, and the last body has to end at the total.
 pub(crate) fn places(order: Order, count: u32, file: &[u8]) -> Verdict
-    requires { ⌜ Opened (now file) order count ⌝ }
+    requires { ⌜ Opened (now file) (length (now file)) order count ⌝ }
     ensures { λ r. ⌜ PlacesJudged (now (file .entry)) r ⌝ }
 {
     let total = file.len();
-    let mut start = HEADER + ENTRY * (count as usize);
+    let mut start = entry_at(count);
     let mut place = HEADER;
     let mut class = 0;
     while class < count {

@@ -15,7 +15,7 @@ pub(crate) struct Entry {
 }
 
 // The entry at a place.
-pub(crate) fn entry_at(file: &[u8], order: Order, place: usize) -> Entry
+fn read_entry(file: &[u8], order: Order, place: usize) -> Entry
     requires { ⌜ place + 8 ≤ length (now file) ⌝ }
     ensures { λ r. ⌜ r ≡ entryOf (now (file .entry)) order place ⌝ }
 {
@@ -47,7 +47,7 @@ fn entry_of<'a>(r: Reader<'a>) -> Entry
     requires { ⌜ r .place + 8 ≤ length (now (r .file)) ⌝ }
     ensures { λ e. ⌜ e ≡ entryOf (now (r .entry .file)) (r .entry .order) (r .entry .place) ⌝ }
 {
-    entry_at(r.file, r.order, r.place)
+    read_entry(r.file, r.order, r.place)
 }
 
 // The entry at a place, by a reader that is set there. Whoever calls this has plain parameters, and no reader.

@@ -1,19 +1,20 @@
 // The header and its checks.
 ghost use mathlib.Core.Path.{_≡_};
+ghost use lib.ListN.{length};
 ghost use Rattle.tree.specs.declared.Verdict.the-variants.{Refused};
 ghost use Rattle.file.specs.Steps.{HeaderJudged};
 use super::words::order_of;
 use super::words::word;
-use crate::format::ENTRY;
 use crate::format::HEADER;
 use crate::format::MARK;
 use crate::format::VERSION;
+use crate::format::entry_at;
 use tree::Refusal;
 use tree::Verdict;
 
 // Checks 1 to 5.
 pub(crate) fn header(file: &[u8]) -> Verdict
-    ensures { λ r. ⌜ HeaderJudged (now (file .entry)) r ⌝ }
+    ensures { λ r. ⌜ HeaderJudged (now (file .entry)) (length (now (file .entry))) r ⌝ }
 {
     if file.len() < HEADER {
         return whole(Refusal::ShortFile);
@@ -29,14 +30,14 @@ pub(crate) fn header(file: &[u8]) -> Verdict
     if count < 2 {
         return whole(Refusal::WrongCount);
     }
-    if 64 < count {
+    if tree::MOST_CLASSES < count {
         return whole(Refusal::WrongCount);
     }
     let total = word(order, file, 12);
     if (total as usize) != file.len() {
         return whole(Refusal::WrongTotal);
     }
-    if file.len() < HEADER + ENTRY * (count as usize) {
+    if file.len() < entry_at(count) {
         return whole(Refusal::WrongTotal);
     }
     Verdict::Right

@@ -14,20 +14,20 @@ use Rattle.curve.proofs.Laws.Order.{le-or-lt}
 use Rattle.curve.proofs.Laws.Times.{deadline-exists}
 use Rattle.tree.specs.declared.Tree.{Tree}
 use Rattle.tree.specs.Trees.{curveOf}
-use Rattle.tree.specs.Rules.{RightTree}
 use Rattle.rules.specs.declared.Rule.{Rule}
 use Rattle.rules.specs.declared.Rule.the-variants.{RealTime, Fair}
 use Rattle.rules.specs.Limits.{weigh}
 use Rattle.rules.specs.Calls.{Call, came, left, idle}
 use Rattle.rules.specs.Clock.{clock}
 use Rattle.rules.specs.Queues.{queue, headOf, isNonempty, waits, headLength, headNumber}
-use Rattle.rules.specs.Leaves.{sentRealTime, pieces}
+use Rattle.rules.specs.Leaves.{sentRealTimeIn, sentRealTime, pieces}
 use Rattle.rules.specs.Lawful.{Allowed, LawfulCalls, Grown, right, none}
 use Rattle.rules.proofs.Tests.{never}
-use Rattle.rules.proofs.Trees.{leaf-class, curve-rising}
+use Rattle.rules.proofs.Allowed.{allowed-timely}
+use Rattle.rules.proofs.Trees.{leaf-class, curve-rising, none-count}
 use Rattle.rules.proofs.Queues.{waits-leaf, waits-came-on}
-use Rattle.rules.specs.Link.{heaviest, free, Keeps, EveryCallKeeps, Link}
-use Rattle.rules.specs.Guarantee.{Moment, now, after, Head, LeftBy, TimeLeft, Sound, Guaranteed, FromFit, Guarantee, HeadsThere}
+use Rattle.rules.specs.Link.{heaviest, free, Keeps, BusyUntil, EveryCallKeeps, Link}
+use Rattle.rules.specs.Guarantee.{Moment, now, after, Head, LeftBy, TimeLeft, Sound, RightSound, Guaranteed, FromFit, Guarantee, HeadsThere}
 use Rattle.rules.proofs.Link.Leaves.{head-some}
 use Rattle.rules.proofs.Link.Invariant.{Invariant, ceiling, at-start, at-idle, at-came, at-fair, at-late, at-early, head-fits}
 
@@ -36,19 +36,19 @@ module _ (tree : Tree) (sound : Sound tree) (r : ℕ) where
   step : (D : ℕ) (c : Call) (cs : List Call) → Invariant tree r D cs → LawfulCalls tree cs → Allowed tree cs c → Keeps r cs c
       → Invariant tree r D (c ∷ cs)
   unfolding clock
-  step D (came at k n) cs i lawful ok keeps = at-came tree r D cs i lawful at k n (ok .0) (keeps .passes)
-  step D (left at k Fair) cs i lawful ok keeps = at-fair tree sound r D cs lawful at (ok .0 .forward) k (keeps .asked) (ok .1)
-  step D (left at k RealTime) cs i lawful ok keeps = go (le-or-lt (ok .1 .deadline) D)
+  step D (came at k n) cs i lawful ok keeps = at-came tree r D cs i lawful at k n (allowed-timely ok) (keeps .passes)
+  step D (left at k Fair) cs i lawful ok keeps = at-fair tree sound r D cs lawful at (allowed-timely ok .forward) k (keeps .asked) (ok .finds)
+  step D (left at k RealTime) cs i lawful ok keeps = go (le-or-lt (ok .finds .deadline) D)
     where
       soon : at ≤ ceiling cs (i .s) (i .a)
       soon =
-          let waiting = ok .1 .first .meant .waiting in
+          let waiting = ok .finds .first .meant .waiting in
           keeps .passes (ceiling cs (i .s) (i .a)) k (i .nowSoon k waiting) (i .freeSoon) waiting
 
-      go : (ok .1 .deadline ≤ D) ⊎ (D < ok .1 .deadline) → Invariant tree r D (left at k RealTime ∷ cs)
-      go (inl early) = at-early tree sound r D cs lawful at (ok .0 .forward) i k (keeps .asked) (ok .1) early soon
-      go (inr late) = at-late tree sound r D cs lawful at (ok .0 .forward) k (keeps .asked) (ok .1) late
-  step D (idle at) cs i lawful ok keeps = at-idle tree r D cs i lawful at (ok .0) (ok .1)
+      go : (ok .finds .deadline ≤ D) ⊎ (D < ok .finds .deadline) → Invariant tree r D (left at k RealTime ∷ cs)
+      go (inl early) = at-early tree sound r D cs lawful at (allowed-timely ok .forward) i k (keeps .asked) (ok .finds) early soon
+      go (inr late) = at-late tree sound r D cs lawful at (allowed-timely ok .forward) k (keeps .asked) (ok .finds) late
+  step D (idle at) cs i lawful ok keeps = at-idle tree r D cs i lawful at (allowed-timely ok) (ok .finds)
 
   -- every call
   invariant : (D : ℕ) → r ≤ heaviest → (cs : List Call) → LawfulCalls tree cs → EveryCallKeeps r cs → Invariant tree r D cs
@@ -100,7 +100,7 @@ module _ (tree : Tree) (j number n deadline : ℕ) where
       }
 
   stays-came : (at k m : ℕ) (cs : List Call) → Head tree cs j number n deadline → Head tree (came at k m ∷ cs) j number n deadline
-  unfolding queue headNumber pieces sentRealTime
+  unfolding queue headNumber pieces sentRealTimeIn
   stays-came at k m cs h =
       carried
       cs
@@ -113,11 +113,11 @@ module _ (tree : Tree) (j number n deadline : ℕ) where
       h
 
   stays-idle : (at : ℕ) (cs : List Call) → Head tree cs j number n deadline → Head tree (idle at ∷ cs) j number n deadline
-  unfolding queue headNumber pieces sentRealTime
+  unfolding queue headNumber pieces sentRealTimeIn
   stays-idle at cs h = carried cs (idle at ∷ cs) (h .waiting) refl refl refl refl h
 
   same-sent : (at k : ℕ) (rule : Rule) (cs : List Call) → eqb k j ≡ false → sentRealTime (left at k rule ∷ cs) j ≡ sentRealTime cs j
-  unfolding sentRealTime
+  unfolding sentRealTimeIn
   same-sent at k RealTime cs e = rw e
   same-sent at k Fair cs e = refl
 
@@ -214,8 +214,8 @@ from-fit r tree cs sound lawful link =
         omega (arith, t .full, t .fromNow)
 
 -- a tree that a start keeps is sound: rule 4 counts its classes, 7 its curves' numbers, and 10 says that they fit
-pub right-sound : (tree : Tree) → RightTree tree → Sound tree
-right-sound tree h = record { few = h .count .below; rising = curve-rising tree (right h); fit = h .fit }
+pub right-sound : RightSound
+right-sound tree h = record { few = h .shape .count .below; rising = curve-rising tree (right h); fit = h .fit }
 
 -- where there is no class nothing waits
 no-head : (tree : Tree) (cs : List Call) (j : ℕ) → tree .count ≡ 0 → LawfulCalls tree cs → waits cs j ≡ true → ⊥
@@ -228,8 +228,8 @@ guarantee r h lawful link = go (lawful .grown)
     go (right t) = from-fit r (h .tree) (h .calls) (right-sound (h .tree) t) (lawful .lawful) link
     go (none e) =
         record {
-          noneLater = λ past m j number n deadline head. absurd (no-head (h .tree) past j e (past-lawful (h .tree) m (lawful .lawful)) (head .waiting));
-          timeLeft = λ past m j number n deadline head. absurd (no-head (h .tree) past j e (past-lawful (h .tree) m (lawful .lawful)) (head .waiting));
+          noneLater = λ past m j number n deadline head. absurd (no-head (h .tree) past j (none-count e) (past-lawful (h .tree) m (lawful .lawful)) (head .waiting));
+          timeLeft = λ past m j number n deadline head. absurd (no-head (h .tree) past j (none-count e) (past-lawful (h .tree) m (lawful .lawful)) (head .waiting));
         }
 
 pub heads-there : HeadsThere
@@ -240,6 +240,6 @@ heads-there h lawful past m j curved waiting =
     (d .0, record { curved = curved; waiting = waiting; isNumber = refl; isLength = refl; isDeadline = d .1 })
 
 -- in a run that the link keeps, "a packet that leaves at" a tick "keeps the link busy until" that tick and its bytes
-pub busy-until : (r at j : ℕ) (rule : Rule) (cs : List Call) → Keeps r cs (left at j rule) → free r (left at j rule ∷ cs) ≡ at + weigh (headLength cs j)
+pub busy-until : BusyUntil
 unfolding free
 busy-until r at j rule cs keeps = let asked = keeps .asked in omega arith

@@ -10,7 +10,7 @@ use native.Mathlib.Nat.{le-trans, le-refl, sub-self}
 use native.Mathlib.Omega.{arith}
 use lib.Dec.{eqb}
 use borrow.Author.Tests.{eqb-true, eq-eqb}
-use Rattle.curve.specs.Curves.{amount, inParts, Rising}
+use Rattle.curve.specs.Curves.{whole, amount, inParts, Rising}
 use Rattle.curve.specs.Pieces.{latest, Due, Deadline, Eligible}
 use Rattle.curve.specs.declared.Curve.{Curve}
 use Rattle.curve.specs.declared.Piece.{Piece}
@@ -28,9 +28,10 @@ use Rattle.rules.specs.Limits.{weigh}
 use Rattle.rules.specs.Calls.{Call, came, left, idle}
 use Rattle.rules.specs.Clock.{clock}
 use Rattle.rules.specs.Queues.{queue, headOf, tailOf, isNonempty, waits, headLength}
-use Rattle.rules.specs.Leaves.{sentRealTime, pieces}
+use Rattle.rules.specs.Leaves.{sentRealTimeIn, sentRealTime, pieces}
 use Rattle.rules.specs.Choice.{hasCurve, Contends, RealTimeRule, FairRule, NothingWaits}
-use Rattle.rules.specs.Lawful.{Timely, LawfulCalls}
+use Rattle.rules.specs.Lawful.{LawfulCalls}
+use Rattle.rules.proofs.Allowed.{Timely}
 use Rattle.rules.proofs.Tests.{never, is-false}
 use Rattle.rules.proofs.Trees.{leaf-class}
 use Rattle.rules.proofs.Queues.{waits-leaf}
@@ -111,7 +112,7 @@ nothing-owed S c x = rw (sub-self c) (omega arith)
 
 module _ (tree : Tree) (r D : ℕ) where
   pub at-start : r ≤ heaviest → Invariant tree r D []
-  unfolding clock queue pieces sentRealTime free
+  unfolding clock queue pieces sentRealTimeIn free
   at-start l =
       record {
         s = 0;
@@ -127,7 +128,7 @@ module _ (tree : Tree) (r D : ℕ) where
 
   module _ (cs : List Call) (i : Invariant tree r D cs) (lawful : LawfulCalls tree cs) where
     pub at-idle : (at : ℕ) → Timely cs at → NothingWaits cs → Invariant tree r D (idle at ∷ cs)
-    unfolding clock queue pieces sentRealTime free
+    unfolding clock queue pieces sentRealTimeIn free
     at-idle at t none =
         record {
           s = i .s;
@@ -142,7 +143,7 @@ module _ (tree : Tree) (r D : ℕ) where
         }
 
     pub at-came : (at k n : ℕ) → Timely cs at → PassesNone r cs (came at k n) → Invariant tree r D (came at k n ∷ cs)
-    unfolding clock queue pieces sentRealTime free
+    unfolding clock queue pieces sentRealTimeIn free
     at-came at k n t passes = go (le-or-lt at (ceiling cs (i .s) (i .a)))
       where
         old : (j : ℕ) → latest (pieces cs j) ≤ at
@@ -218,7 +219,7 @@ module _ (tree : Tree) (sound : Sound tree) (r D : ℕ) (cs : List Call) (lawful
     pub head-fits : ceiling cs (i .s) (i .a) + weigh (headLength cs k) ≤ D + heaviest
     head-fits =
         let all =
-        sum-room 65536 (λ j. sentRealTime cs j - i .a j) (λ j. amount (curveBelow tree j) (D - i .s)) (i .owed)
+        sum-room whole (λ j. sentRealTime cs j - i .a j) (λ j. amount (curveBelow tree j) (D - i .s)) (i .owed)
         k (weigh (headLength cs k)) head-room 0 64 (omega arith) among in
         omega (arith, all, fit-sum tree (sound .fit) (D - i .s), head-some tree cs lawful k waiting)
 
@@ -284,13 +285,13 @@ module _ (tree : Tree) (sound : Sound tree) (r D : ℕ) (cs : List Call) (lawful
 
     -- a departure by the fair rule: no leaf that waits is ripe
     pub at-fair : (k : ℕ) → free r cs ≤ at → FairRule tree cs at k → Invariant tree r D (left at k Fair ∷ cs)
-    unfolding queue pieces sentRealTime
+    unfolding queue pieces sentRealTimeIn
     at-fair k asked rule =
         afresh k Fair asked (λ j curved w. paid (⊎-elim (λ c. absurd (rule .none j (c .0) (c .1))) (λ h. h) (ripe-or-paid j curved w)))
 
     -- a departure by the real-time rule with a deadline later than D: so are those of all leaves that wait and are ripe
     pub at-late : (k : ℕ) → free r cs ≤ at → (rule : RealTimeRule tree cs at k) → D < rule .deadline → Invariant tree r D (left at k RealTime ∷ cs)
-    unfolding queue pieces sentRealTime
+    unfolding queue pieces sentRealTimeIn
     at-late k asked rule late = afresh k RealTime asked (λ j curved w. go j curved w (eqb k j) refl)
       where
         undue : (j d : ℕ) → Contends tree cs at j d → HeadDue tree cs j D → ⊥
@@ -319,7 +320,7 @@ module _ (tree : Tree) (sound : Sound tree) (r D : ℕ) (cs : List Call) (lawful
     -- a departure by the real-time rule with a deadline of at most D: it is paid for, and the link's time that it takes is counted
     pub at-early : (i : Invariant tree r D cs) (k : ℕ) → free r cs ≤ at → (rule : RealTimeRule tree cs at k) → rule .deadline ≤ D → at ≤ ceiling cs (i .s) (i .a)
         → Invariant tree r D (left at k RealTime ∷ cs)
-    unfolding clock queue pieces sentRealTime free
+    unfolding clock queue pieces sentRealTimeIn free
     at-early i k asked rule early soon =
         record {
           s = i .s;

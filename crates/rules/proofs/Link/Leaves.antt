@@ -21,9 +21,9 @@ use Rattle.rules.proofs.Sent.{weigh-some, weigh-most}
 use Rattle.rules.proofs.Leaves.{pieces-in-order}
 use Rattle.rules.specs.Link.{heaviest}
 
-no-head : (q : List ℕ) → isNonempty q ≡ false → headOf q ≤ longest
-no-head [] e = omega arith
-no-head (x ∷ q) e = never refl e
+head-of-none : (q : List ℕ) → isNonempty q ≡ false → headOf q ≤ longest
+head-of-none [] e = omega arith
+head-of-none (x ∷ q) e = never refl e
 
 module _ (tree : Tree) (cs : List Call) (lawful : LawfulCalls tree cs) (j : ℕ) where
   -- the head counts for at least a byte, and for no more than the longest packet does
@@ -34,7 +34,7 @@ module _ (tree : Tree) (cs : List Call) (lawful : LawfulCalls tree cs) (j : ℕ)
   head-most =
       weigh-most
       (headLength cs j)
-      (⊎-elim (λ (w : waits cs j ≡ true). head-length tree cs lawful j w .1) (λ (w : waits cs j ≡ false). no-head (queue cs j) w) (decided (waits cs j)))
+      (⊎-elim (λ (w : waits cs j ≡ true). head-length tree cs lawful j w .1) (λ (w : waits cs j ≡ false). head-of-none (queue cs j) w) (decided (waits cs j)))
 
   -- no piece starts after now, or later
   pub latest-by : {t : ℕ} → clock cs ≤ t → latest (pieces cs j) ≤ t

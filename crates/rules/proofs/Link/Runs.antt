@@ -2,47 +2,42 @@
 -- Assumes nothing.
 use Prim.Native.Nat.{ℕ, zero, suc, _+_, _-_, _≤_, _<_}
 use mathlib.Core.Path.{_≡_, refl}
-use mathlib.Core.Bool.{true, false}
+use mathlib.Core.Bool.{true}
 use mathlib.Core.List.{List, [], _∷_}
 use mathlib.Core.Logic.{⊎-elim}
 use native.Mathlib.Omega.{arith}
-use lib.Dec.{lit≤}
 use lib.ListN.{drop}
 use Rattle.curve.specs.Curves.{amount}
 use Rattle.curve.specs.Pieces.{standing}
 use Rattle.curve.specs.Fit.{sumOf}
-use Rattle.curve.specs.declared.Curve.the-variants.{None}
 use Rattle.curve.proofs.Laws.Order.{le-or-lt}
 use Rattle.curve.proofs.Laws.Limits.{none-right, straight-right}
 use Rattle.curve.proofs.Laws.Fit.{fit-each}
 use Rattle.tree.specs.declared.Tree.{Tree}
-use Rattle.tree.specs.Trees.{classAt, curveOf, isChild, childBelow, hasChild, isLeaf, stepsUp, depth, curveBelow, curvesFrom, curvesOf}
-use Rattle.tree.specs.Rules.{RightClass}
+use Rattle.tree.specs.Trees.{classAt, curveOf, isChild, childBelow, hasChild, isLeaf}
 use Rattle.rules.specs.declared.Rule.{Rule}
 use Rattle.rules.specs.Limits.{weigh}
 use Rattle.rules.specs.Calls.{Call, came, left, idle}
 use Rattle.rules.specs.Clock.{clock}
-use Rattle.rules.specs.Queues.{queue, waits, headLength, headNumber, accepted}
-use Rattle.rules.specs.Leaves.{sentRealTime, pieces}
+use Rattle.rules.specs.Queues.{queue, waits, headLength, headNumber, acceptedIn}
+use Rattle.rules.specs.Leaves.{sentRealTimeIn, sentRealTime, pieces}
 use Rattle.rules.specs.Over.{anyOf, largestOf, smallestOf}
-use Rattle.rules.specs.Classes.{isMet, sent, active}
-use Rattle.rules.specs.Fair.{roundedUp, virtualTime, isOther, meeting, fairPieces}
+use Rattle.rules.specs.Classes.{isMet, sentIn, active}
+use Rattle.rules.specs.Fair.{roundedUp, virtualTime, isOther, markByChildren, fairPieces}
 use Rattle.rules.specs.Choice.{hasCurve}
+use Rattle.rules.specs.Checks.{outcome}
 use Rattle.rules.specs.Lawful.{LawfulCalls, Grown, right}
 use Rattle.rules.specs.Rows.{treeA}
-use Rattle.rules.proofs.Tests.{never}
-use Rattle.rules.proofs.Examples.{right-A}
+use Rattle.rules.proofs.Examples.{two-right, grown-A}
+use Rattle.rules.proofs.Made.{lawful-made}
 use Rattle.rules.specs.Link.{heaviest, free, Link}
 use Rattle.rules.specs.Guarantee.{Moment, now, after, Head, LeftBy}
-use Rattle.rules.specs.Runs.{Premises, runA, historyA, lateTree, lateRun, lateHistory, Attained, Shown, Sharp}
-use Rattle.rules.proofs.Link.Told.{every, headDue, deadline-told, lawful, lawful-told, keeps, keeps-told}
+use Rattle.rules.specs.Runs.{Premises, runA, historyA, lateTree, lateRun, lateHistory, Attained, RunsShow, Sharp}
+use Rattle.rules.proofs.Link.Told.{every, headDue, leastAt, deadline-told, lawful, lawful-told, keeps, keeps-told}
 use Rattle.rules.proofs.Link.Guarantee.{guarantee}
 
-grown-A : Grown treeA
-grown-A = right right-A
-
 lawful-A : LawfulCalls treeA runA
-unfolding lawful every classAt isChild childBelow hasChild isLeaf clock queue accepted weigh sentRealTime pieces standing amount anyOf largestOf smallestOf isMet sent active roundedUp virtualTime isOther meeting fairPieces
+unfolding lawful every classAt isChild childBelow hasChild isLeaf clock queue acceptedIn weigh sentRealTimeIn pieces standing amount anyOf largestOf smallestOf isMet sentIn active roundedUp virtualTime isOther markByChildren fairPieces outcome
 lawful-A = lawful-told treeA grown-A (8500 ∷ 6000 ∷ 6000 ∷ 4000 ∷ 2000 ∷ 4000 ∷ 1000 ∷ []) runA refl
 
 link-A : Link 0 runA
@@ -55,16 +50,16 @@ ago zero cs = now
 ago (suc n) [] = now
 ago (suc n) (c ∷ cs) = after (ago n cs)
 
--- a head on closed numbers: its deadline is told by two tests
+-- a head on closed numbers: its deadline is told by a test
 head-told : (tree : Tree) (cs : List Call) (j deadline : ℕ) → hasCurve (curveOf tree j) ≡ true → waits cs j ≡ true
-    → headDue tree cs j deadline ≡ true → headDue tree cs j (deadline - 1) ≡ false → Head tree cs j (headNumber cs j) (headLength cs j) deadline
-head-told tree cs j deadline curved waiting at before =
+    → leastAt (headDue tree cs j) deadline ≡ true → Head tree cs j (headNumber cs j) (headLength cs j) deadline
+head-told tree cs j deadline curved waiting e =
     record {
       curved = curved;
       waiting = waiting;
       isNumber = refl;
       isLength = refl;
-      isDeadline = deadline-told (curveOf tree j) (pieces cs j) (sentRealTime cs j + weigh (headLength cs j)) deadline at before;
+      isDeadline = deadline-told (curveOf tree j) (pieces cs j) (sentRealTime cs j + weigh (headLength cs j)) deadline e;
     }
 
 premises-A : (n j number length deadline : ℕ) → Head treeA (drop n runA) j number length deadline → deadline + heaviest ≤ clock runA
@@ -76,51 +71,27 @@ premises-A n j number length deadline head reached =
       past = drop n runA;
       moment = ago n runA;
       head = head;
-      reached = reached;
+      clockReaches = reached;
     }
 
 first-A : Premises historyA 1 0 500 1000
-unfolding every classAt queue clock weigh sentRealTime pieces headNumber standing amount
-first-A = premises-A 10 1 0 500 1000 (head-told treeA (drop 10 runA) 1 1000 refl refl refl refl) (omega arith)
+unfolding every classAt queue clock weigh sentRealTimeIn pieces headNumber standing amount
+first-A = premises-A 10 1 0 500 1000 (head-told treeA (drop 10 runA) 1 1000 refl refl refl) (omega arith)
 
 second-A : Premises historyA 2 0 1000 4000
-unfolding every classAt queue clock weigh sentRealTime pieces headNumber standing amount
-second-A = premises-A 9 2 0 1000 4000 (head-told treeA (drop 9 runA) 2 4000 refl refl refl refl) (omega arith)
+unfolding every classAt queue clock weigh sentRealTimeIn pieces headNumber standing amount
+second-A = premises-A 9 2 0 1000 4000 (head-told treeA (drop 9 runA) 2 4000 refl refl refl) (omega arith)
 
 last-A : Premises historyA 2 3 700 8500
-unfolding every classAt queue clock weigh sentRealTime pieces headNumber standing amount
-last-A = premises-A 2 2 3 700 8500 (head-told treeA (drop 2 runA) 2 8500 refl refl refl refl) (omega arith)
-
--- The late tree is right.
-
-late-class : (i : ℕ) → i < 3 → RightClass (classAt lateTree i) i
-unfolding RightClass classAt
-late-class zero h = record { parent = refl; share = refl; curve = refl }
-late-class (suc zero) h = record { parent = omega arith; share = omega arith; curve = none-right }
-late-class (suc (suc zero)) h = record { parent = omega arith; share = omega arith; curve = straight-right _ (omega arith) }
-late-class (suc (suc (suc i))) h = absurd (omega arith)
-
-late-depth : (i : ℕ) → i < 3 → depth lateTree i ≤ 8
-unfolding depth stepsUp classAt
-late-depth zero h = lit≤ tt
-late-depth (suc zero) h = lit≤ tt
-late-depth (suc (suc zero)) h = lit≤ tt
-late-depth (suc (suc (suc i))) h = absurd (omega arith)
-
-late-place : (i : ℕ) → i < 3 → hasChild lateTree i ≡ true → curveOf lateTree i ≡ None
-unfolding hasChild childBelow isChild classAt
-late-place zero h e = refl
-late-place (suc zero) h e = never e refl
-late-place (suc (suc zero)) h e = never e refl
-late-place (suc (suc (suc i))) h e = absurd (omega arith)
+unfolding every classAt queue clock weigh sentRealTimeIn pieces headNumber standing amount
+last-A = premises-A 2 2 3 700 8500 (head-told treeA (drop 2 runA) 2 8500 refl refl refl) (omega arith)
 
 late-grown : Grown lateTree
-unfolding sumOf curvesOf curvesFrom curveBelow classAt amount
-late-grown =
-    right (record { count = omega arith; bodies = late-class; depths = late-depth; places = late-place; fit = fit-each (curvesOf lateTree) (λ t. omega arith) })
+unfolding sumOf amount
+late-grown = right (two-right _ _ _ _ (omega arith) none-right (omega arith) (straight-right _ (omega arith)) (fit-each _ (λ t. omega arith)))
 
 late-lawful : LawfulCalls lateTree lateRun
-unfolding lawful every classAt isChild childBelow hasChild isLeaf clock queue accepted weigh sentRealTime pieces standing amount anyOf largestOf smallestOf isMet sent active roundedUp virtualTime isOther meeting fairPieces
+unfolding lawful every classAt isChild childBelow hasChild isLeaf clock queue acceptedIn weigh sentRealTimeIn pieces standing amount anyOf largestOf smallestOf isMet sentIn active roundedUp virtualTime isOther markByChildren fairPieces outcome
 late-lawful = lawful-told lateTree late-grown (1500 ∷ []) lateRun refl
 
 late-link : Link 0 lateRun
@@ -128,8 +99,8 @@ unfolding keeps clock queue anyOf free weigh
 late-link = record { soon = omega arith; kept = keeps-told lateTree 0 lateRun late-lawful refl }
 
 late-head : Head lateTree (drop 2 lateRun) 2 0 1500 1500
-unfolding every classAt queue clock weigh sentRealTime pieces headNumber standing amount
-late-head = head-told lateTree (drop 2 lateRun) 2 1500 refl refl refl refl
+unfolding every classAt queue clock weigh sentRealTimeIn pieces headNumber standing amount
+late-head = head-told lateTree (drop 2 lateRun) 2 1500 refl refl refl
 
 late-premises : Premises lateHistory 2 0 1500 1500
 unfolding clock weigh
@@ -140,7 +111,7 @@ late-premises =
       past = drop 2 lateRun;
       moment = ago 2 lateRun;
       head = late-head;
-      reached = omega arith;
+      clockReaches = omega arith;
     }
 
 -- what holds of every departure of a run holds of each
@@ -170,12 +141,12 @@ late-exact : Attained lateHistory 2 0 1500 1500
 late-exact =
     record {
       premises = late-premises;
-      leaves = guarantee 0 lateHistory (late-premises .lawful) late-link .noneLater (drop 2 lateRun) (ago 2 lateRun) 2 0 1500 1500 late-head (late-premises .reached);
+      leaves = guarantee 0 lateHistory (late-premises .lawful) late-link .noneLater (drop 2 lateRun) (ago 2 lateRun) 2 0 1500 1500 late-head (late-premises .clockReaches);
       noSooner = no-sooner;
     }
 
-pub shown : Shown
-shown = record { first = first-A; second = second-A; last = last-A; exact = late-exact }
+pub runs-show : RunsShow
+runs-show = record { made = lawful-made historyA (first-A .lawful); madeLate = lawful-made lateHistory (late-premises .lawful); first = first-A; second = second-A; last = last-A; exact = late-exact }
 
 pub sharp : Sharp
 unfolding clock
@@ -185,4 +156,4 @@ sharp late holds =
     by : late < heaviest → LeftBy lateRun 2 0 1500 (1500 + late)
     by l =
         holds lateHistory (late-premises .lawful) late-link (drop 2 lateRun) (ago 2 lateRun) 2 0 1500 1500 late-head
-        (omega (arith, late-premises .reached))
+        (omega (arith, late-premises .clockReaches))

@@ -7,11 +7,11 @@ use mathlib.Core.List.{List, [], _∷_}
 use mathlib.Core.Logic.{⊎-elim}
 use native.Mathlib.Nat.{le-trans, le-refl, le-of-eq}
 use native.Mathlib.Omega.{arith}
-use lib.Dec.{leb, ltb}
-use lib.ListN.{length}
-use borrow.Author.Tests.{leb-true, ltb-true, le-leb, lt-ltb}
+use lib.Dec.{eqb, leb, ltb}
+use borrow.Author.Tests.{eqb-true, leb-true, le-leb, lt-ltb}
 use Rattle.curve.specs.Curves.{inParts}
-use Rattle.curve.specs.Pieces.{standing, EveryPiece, latest, Due, Deadline, lead}
+use Rattle.curve.specs.Pieces.{standing, EveryPiece, latest, Due, Deadline, lead, Ripe, Eligible}
+use Rattle.curve.specs.Answers.{Least}
 use Rattle.curve.specs.declared.Curve.{Curve}
 use Rattle.curve.specs.declared.Piece.{Piece}
 use Rattle.curve.proofs.Laws.Order.{le-or-lt}
@@ -21,17 +21,18 @@ use Rattle.curve.proofs.Laws.Times.{eligible-exists}
 use Rattle.tree.specs.declared.Tree.{Tree}
 use Rattle.tree.specs.Trees.{curveOf, isChild, isLeaf}
 use Rattle.rules.specs.declared.Rule.the-variants.{RealTime, Fair}
-use Rattle.rules.specs.Limits.{longest, room, end, tooFar, weigh}
+use Rattle.rules.specs.Limits.{weigh}
 use Rattle.rules.specs.Calls.{Call, came, left, idle}
 use Rattle.rules.specs.Clock.{clock}
-use Rattle.rules.specs.Queues.{queue, headOf, tailOf, waits, headLength, accepted}
+use Rattle.rules.specs.Queues.{headOf, tailOf, waits, headLength}
 use Rattle.rules.specs.Leaves.{sentRealTime, pieces, DeadlineOf}
 use Rattle.rules.specs.Over.{anyOf}
 use Rattle.rules.specs.Classes.{active}
 use Rattle.rules.specs.Fair.{virtualTimeOf}
 use Rattle.rules.specs.Choice.{hasCurve, Contends, RealTimeRule, ActiveChild, FairRule, reached, down, NothingWaits}
-use Rattle.rules.specs.Lawful.{Timely, Admitted, LawfulCalls, Grown}
-use Rattle.rules.proofs.Tests.{never, and-left, and-right, and-both, or-either, or-left, or-right, is-false, is-not}
+use Rattle.rules.specs.Checks.{Outcome, passed, refused, outcome}
+use Rattle.rules.specs.Lawful.{checksOf, Finds, Allowed, LawfulCalls, Grown}
+use Rattle.rules.proofs.Tests.{never, and-left, and-right, and-both, or-either, or-left, or-right, is-false, is-not, not-is}
 use Rattle.rules.proofs.Over.{any-none}
 use Rattle.rules.proofs.Trees.{leaf-class, child-class, curve-rising}
 use Rattle.rules.proofs.Queues.{waits-leaf}
@@ -75,19 +76,50 @@ is-due S ps bytes t h =
 abbrev pub ripe : Curve → List Piece → ℕ → ℕ → Bool
 ripe S ps bytes t = leb (latest ps) t && every S ps (t + lead S) (inParts bytes)
 
+ripe-is : (S : Curve) (ps : List Piece) (bytes t : ℕ) → ripe S ps bytes t ≡ true → Ripe S ps bytes t
+ripe-is S ps bytes t e =
+    let (a, b) = both (leb (latest ps) t) (every S ps (t + lead S) (inParts bytes)) e in
+    record { after = leb-true (latest ps) t a; every = every-is S ps (t + lead S) (inParts bytes) b }
+
+is-ripe : (S : Curve) (ps : List Piece) (bytes t : ℕ) → Ripe S ps bytes t → ripe S ps bytes t ≡ true
+is-ripe S ps bytes t h =
+    and-both (leb (latest ps) t) (every S ps (t + lead S) (inParts bytes)) (le-leb (latest ps) t (h .after))
+    (is-every S ps (t + lead S) (inParts bytes) (h .every))
+
+-- the least number at which a test is true: it is true there, and not at the number before
+abbrev pub leastAt : (ℕ → Bool) → ℕ → Bool
+leastAt test t = test t && (eqb t 0 || not (test (t - 1)))
+
+least-told : (P : ℕ → Type 0) (test : ℕ → Bool) → ((t : ℕ) → test t ≡ true → P t) → ((t : ℕ) → P t → test t ≡ true)
+    → ((t u : ℕ) → t ≤ u → P t → P u) → (t : ℕ) → leastAt test t ≡ true → Least P t
+least-told P test is of later t e =
+    let (at, before) = both (test t) _ e in
+    record { holds = is t at; least = λ u h. ⊎-elim (λ l. l) (λ l. absurd (early u h l before)) (le-or-lt t u) }
+  where
+    early : (u : ℕ) → P u → u < t → (eqb t 0 || not (test (t - 1))) ≡ true → ⊥
+    early u h l e =
+        ⊎-elim
+        (λ (q : eqb t 0 ≡ true). omega (arith, eqb-true t 0 q))
+        (λ (q : not (test (t - 1)) ≡ true). never (of (t - 1) (later u (t - 1) (omega arith) h)) (is-not (test (t - 1)) q))
+        (or-either (eqb t 0) (not (test (t - 1))) e)
+
+-- what is due or ripe stays so
+due-later : (S : Curve) (ps : List Piece) (bytes t u : ℕ) → t ≤ u → Due S ps bytes t → Due S ps bytes u
+due-later S ps bytes t u l h = record { after = le-trans (h .after) l; every = every-mono S ps l (le-refl (inParts bytes)) (h .every) }
+
+ripe-later : (S : Curve) (ps : List Piece) (bytes t u : ℕ) → t ≤ u → Ripe S ps bytes t → Ripe S ps bytes u
+ripe-later S ps bytes t u l h =
+    record { after = le-trans (h .after) l; every = every-mono S ps (omega arith) (le-refl (inParts bytes)) (h .every) }
+
+pub deadline-told : (S : Curve) (ps : List Piece) (bytes d : ℕ) → leastAt (due S ps bytes) d ≡ true → Deadline S ps bytes d
+deadline-told S ps bytes = least-told (Due S ps bytes) (due S ps bytes) (due-is S ps bytes) (is-due S ps bytes) (due-later S ps bytes)
+
+pub eligible-told : (S : Curve) (ps : List Piece) (bytes t : ℕ) → leastAt (ripe S ps bytes) t ≡ true → Eligible S ps bytes t
+eligible-told S ps bytes = least-told (Ripe S ps bytes) (ripe S ps bytes) (ripe-is S ps bytes) (is-ripe S ps bytes) (ripe-later S ps bytes)
+
 -- what is due before d is due a tick before d
 due-before : (S : Curve) (ps : List Piece) (bytes u d : ℕ) → Due S ps bytes u → u < d → due S ps bytes (d - 1) ≡ true
-due-before S ps bytes u d h l =
-    is-due S ps bytes (d - 1)
-    (record { after = omega (arith, h .after); every = every-mono S ps (omega arith) (le-refl (inParts bytes)) (h .every) })
-
--- a deadline: due at d, and not a tick before
-pub deadline-told : (S : Curve) (ps : List Piece) (bytes d : ℕ) → due S ps bytes d ≡ true → due S ps bytes (d - 1) ≡ false → Deadline S ps bytes d
-deadline-told S ps bytes d at before =
-    record {
-      holds = due-is S ps bytes d at;
-      least = λ u h. ⊎-elim (λ l. l) (λ l. never (due-before S ps bytes u d h l) before) (le-or-lt d u);
-    }
+due-before S ps bytes u d h l = is-due S ps bytes (d - 1) (due-later S ps bytes u (d - 1) (omega arith) h)
 
 module _ (tree : Tree) (cs : List Call) where
   -- the head of leaf k is due at t
@@ -177,11 +209,14 @@ module _ (tree : Tree) (cs : List Call) where
 
       deadline : DeadlineOf tree cs j d
       deadline =
-          deadline-told (curveOf tree j) (pieces cs j) _ d at
+          deadline-told (curveOf tree j) (pieces cs j) _ d
+          (and-both (headDue j d) _ at
+          (or-right (eqb d 0) _
+          (not-is (headDue j (d - 1))
           (is-false (headDue j (d - 1))
           (λ e.
           not-sooner j (leaf-class tree j (and-left (isLeaf tree j) _ contends)) contends
-          (or-left (headDue j (d - 1)) (ltb j j && headDue j d) e)))
+          (or-left (headDue j (d - 1)) (ltb j j && headDue j d) e))))))
 
   -- class k is an active child of the root
   abbrev pub child : ℕ → Bool
@@ -228,32 +263,27 @@ module _ (tree : Tree) (cs : List Call) where
           (and-both (child k) (ltb (v k) (v j) || (ltb k j && leb (v k) (v j))) (and-both (isChild tree 0 k) (active tree cs k) (c .child) (c .isActive)) e)
           (any-none (tree .count) (lower j) low k (child-class tree 0 k (c .child)))
 
--- a call's tick, and an arrival
+-- a call passes its checks
 
-abbrev pub timely : List Call → ℕ → Bool
-timely cs at = leb (clock cs) at && (ltb at (clock cs + tooFar) && leb at end)
+abbrev pub isPassed : Outcome → Bool
+isPassed passed = true
+isPassed (refused number) = false
 
-timely-is : (cs : List Call) (at : ℕ) → timely cs at ≡ true → Timely cs at
-timely-is cs at e =
-    let (a, e₁) = both (leb (clock cs) at) _ e in
-    let (b, c) = both (ltb at (clock cs + tooFar)) (leb at end) e₁ in
-    record { forward = leb-true (clock cs) at a; near = ltb-true at (clock cs + tooFar) b; inTime = leb-true at end c }
+passed-is : (o : Outcome) → isPassed o ≡ true → o ≡ passed
+passed-is passed e = refl
+passed-is (refused number) e = never e refl
 
-abbrev pub admitted : Tree → List Call → ℕ → ℕ → Bool
-admitted tree cs j n = isLeaf tree j && (leb 1 n && (leb n longest && (ltb (length (queue cs j)) room && leb (accepted cs + weigh n) end)))
+abbrev pub passes : Tree → List Call → Call → Bool
+passes tree cs c = leb (clock cs) (clock (c ∷ cs)) && isPassed (outcome (checksOf tree cs c (clock (c ∷ cs) - clock cs)))
 
-admitted-is : (tree : Tree) (cs : List Call) (j n : ℕ) → admitted tree cs j n ≡ true → Admitted tree cs j n
-admitted-is tree cs j n e =
-    let (a, e₁) = both (isLeaf tree j) _ e in
-    let (b, e₂) = both (leb 1 n) _ e₁ in
-    let (c, e₃) = both (leb n longest) _ e₂ in
-    let (d, f) = both (ltb (length (queue cs j)) room) _ e₃ in
+passes-is : (tree : Tree) (cs : List Call) (c : Call) → passes tree cs c ≡ true → Finds tree cs c → Allowed tree cs c
+passes-is tree cs c e found =
+    let (a, b) = both (leb (clock cs) (clock (c ∷ cs))) _ e in
     record {
-      leaf = a;
-      some = leb-true 1 n b;
-      short = leb-true n longest c;
-      space = ltb-true (length (queue cs j)) room d;
-      bytes = leb-true (accepted cs + weigh n) end f;
+      elapsed = clock (c ∷ cs) - clock cs;
+      isTick = omega (arith, leb-true (clock cs) (clock (c ∷ cs)) a);
+      checked = passed-is (outcome (checksOf tree cs c (clock (c ∷ cs) - clock cs))) b;
+      finds = found;
     }
 
 -- The link: it is free at a departure, and where a packet waits the clock does not pass the later of now and the tick at which the link is free.
@@ -279,52 +309,47 @@ module _ (tree : Tree) where
       never w
       (any-none (tree .count) (waits cs) (is-not (anyOf (tree .count) (waits cs)) e) j (leaf-class tree j (waits-leaf tree cs lawful j w))))
 
-  -- A whole run, with the deadlines of the packets that leave by the real-time rule, the newest first: each call is one that the rules allow.
+  -- what a departure finds, with the deadline d of a packet that leaves by the real-time rule
+  abbrev pub finds : ℕ → List Call → Call → Bool
+  finds d cs (came at j n) = true
+  finds d cs (left at j RealTime) = contender tree cs at j && (headDue tree cs j d && not (anyOf (tree .count) (sooner tree cs at j d)))
+  finds d cs (left at j Fair) =
+      not (anyOf (tree .count) (contender tree cs at)) && (isLeaf tree j && (child tree cs j && not (anyOf (tree .count) (lower tree cs j))))
+  finds d cs (idle at) = rests cs
+
+  pub finds-told : Grown tree → (d : ℕ) (cs : List Call) → LawfulCalls tree cs → (c : Call) → finds d cs c ≡ true → Finds tree cs c
+  finds-told grown d cs law (came at j n) e = tt
+  finds-told grown d cs law (left at j RealTime) e =
+      let (c, e₁) = both (contender tree cs at j) _ e in
+      let (due, s) = both (headDue tree cs j d) _ e₁ in
+      real-time-told tree cs grown at j d c due (is-not (anyOf (tree .count) (sooner tree cs at j d)) s)
+  finds-told grown d cs law (left at j Fair) e =
+      let (c, e₁) = both (not (anyOf (tree .count) (contender tree cs at))) _ e in
+      let (l, e₂) = both (isLeaf tree j) _ e₁ in
+      let (a, s) = both (child tree cs j) _ e₂ in
+      fair-told tree cs at j (is-not (anyOf (tree .count) (contender tree cs at)) c) l a (is-not (anyOf (tree .count) (lower tree cs j)) s)
+  finds-told grown d cs law (idle at) e = rests-is cs law e
+
+  -- the deadlines of the packets that left by the real-time rule before a call, the newest first
+  abbrev pub earlier : Call → List ℕ → List ℕ
+  earlier (came at j n) ds = ds
+  earlier (left at j RealTime) ds = tailOf ds
+  earlier (left at j Fair) ds = ds
+  earlier (idle at) ds = ds
+
+  -- a whole run, with those deadlines: each call is one that the rules allow
   unfoldable pub lawful : List ℕ → List Call → Bool
   lawful ds [] = true
-  lawful ds (came at j n ∷ cs) = timely cs at && (admitted tree cs j n && lawful ds cs)
-  lawful ds (left at j RealTime ∷ cs) =
-      timely cs at
-      && (contender tree cs at j
-      && (headDue tree cs j (headOf ds) && (not (anyOf (tree .count) (sooner tree cs at j (headOf ds))) && lawful (tailOf ds) cs)))
-  lawful ds (left at j Fair ∷ cs) =
-      timely cs at
-      && (not (anyOf (tree .count) (contender tree cs at))
-      && (isLeaf tree j && (child tree cs j && (not (anyOf (tree .count) (lower tree cs j)) && lawful ds cs))))
-  lawful ds (idle at ∷ cs) = timely cs at && (rests cs && lawful ds cs)
+  lawful ds (c ∷ cs) = passes tree cs c && (finds (headOf ds) cs c && lawful (earlier c ds) cs)
 
   pub lawful-told : Grown tree → (ds : List ℕ) (cs : List Call) → lawful ds cs ≡ true → LawfulCalls tree cs
   unfolding lawful LawfulCalls
   lawful-told grown ds [] e = tt
-  lawful-told grown ds (came at j n ∷ cs) e =
-      let (t, e₁) = both (timely cs at) _ e in
-      let (a, rest) = both (admitted tree cs j n) _ e₁ in
-      ((timely-is cs at t, admitted-is tree cs j n a), lawful-told grown ds cs rest)
-  lawful-told grown ds (left at j RealTime ∷ cs) e =
-      let (t, e₁) = both (timely cs at) _ e in
-      let (c, e₂) = both (contender tree cs at j) _ e₁ in
-      let (d, e₃) = both (headDue tree cs j (headOf ds)) _ e₂ in
-      let (s, rest) = both (not (anyOf (tree .count) (sooner tree cs at j (headOf ds)))) _ e₃ in (
-        (timely-is cs at t, real-time-told tree cs grown at j (headOf ds) c d (is-not (anyOf (tree .count) (sooner tree cs at j (headOf ds))) s)),
-        lawful-told grown (tailOf ds) cs rest,
-      )
-  lawful-told grown ds (left at j Fair ∷ cs) e =
-      let (t, e₁) = both (timely cs at) _ e in
-      let (c, e₂) = both (not (anyOf (tree .count) (contender tree cs at))) _ e₁ in
-      let (l, e₃) = both (isLeaf tree j) _ e₂ in
-      let (a, e₄) = both (child tree cs j) _ e₃ in
-      let (s, rest) = both (not (anyOf (tree .count) (lower tree cs j))) _ e₄ in (
-        (
-          timely-is cs at t,
-          fair-told tree cs at j (is-not (anyOf (tree .count) (contender tree cs at)) c) l a (is-not (anyOf (tree .count) (lower tree cs j)) s),
-        ),
-        lawful-told grown ds cs rest,
-      )
-  lawful-told grown ds (idle at ∷ cs) e =
-      let (t, e₁) = both (timely cs at) _ e in
-      let (n, rest) = both (rests cs) _ e₁ in
-      let before = lawful-told grown ds cs rest in
-      ((timely-is cs at t, rests-is cs before n), before)
+  lawful-told grown ds (c ∷ cs) e =
+      let (p, e₁) = both (passes tree cs c) _ e in
+      let (f, rest) = both (finds (headOf ds) cs c) _ e₁ in
+      let before = lawful-told grown (earlier c ds) cs rest in
+      (passes-is tree cs c p (finds-told grown (headOf ds) cs before c f), before)
 
   -- and each keeps to the link
   unfoldable pub keeps : ℕ → List Call → Bool

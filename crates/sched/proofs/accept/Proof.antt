@@ -6,12 +6,14 @@ use native.Mathlib.Omega.{arith}
 use lib.ListN.{length, set}
 use mathlib.Core.List.{List}
 use borrow.Author.Needs.{needs}
+use Rattle.rules.proofs.Allowed.{allowed-admitted}
 use Rattle.rules.specs.Limits.{weigh}
 use Rattle.rules.specs.Calls.{History, came}
 use Rattle.rules.specs.Queues.{queue, nextNumber, accepted}
 use Rattle.rules.specs.Lawful.{Lawful, Allowed}
 use Rattle.rules.proofs.Trees.{leaf-class}
 use Rattle.rules.proofs.Sent.{accepted-most, number-below-accepted}
+use Rattle.state.specs.Table.{CLASSES, slotOf}
 use Rattle.state.specs.State.{Shows}
 use Rattle.sched.specs.StepsArriving.{BeforeBegin, AfterBegin, AcceptRight}
 use Rattle.sched.proofs.Arriving.{class-narrow, waiting-shown, waits-none, waits-some, Counted, counted-by, before-begin, waited, shows-came}
@@ -20,9 +22,9 @@ use Rattle.sched.proofs.accept.Tie as tie
 
 -- the history that the premise gives, and its leaf
 own : (c : tie.Start) → c .args .class < c .pre .history .tree .count
-own c = leaf-class (c .pre .history .tree) (c .args .class) (c .pre .allowed .1 .leaf)
+own c = leaf-class (c .pre .history .tree) (c .args .class) (allowed-admitted (c .pre .holds) .leaf)
 
-narrow : (c : tie.Start) → c .args .class < 64
+narrow : (c : tie.Start) → c .args .class < CLASSES
 narrow c = class-narrow (c .pre .lawful) (c .pre .shows) (c .args .class) (own c)
 
 get-requires : tie.Need-get-requires
@@ -36,8 +38,8 @@ sub-waiting c =
     let start = c .before .before .before .before in
     omega (arith, waiting-shown (start .pre .lawful) (start .pre .shows) (start .args .class) (own start), c .get2 .ensures, c .before .before .get .ensures)
 
-get-requires-3 : tie.Need-get-requires-3
-get-requires-3 c κs = search needs
+header-requires : tie.Need-header-requires
+header-requires c κs = search needs
 
 weigh-requires : tie.Need-weigh-requires
 weigh-requires c κs = search needs
@@ -46,10 +48,10 @@ add-bytes : tie.Need-add-bytes
 add-bytes c =
     let read = c .before in
     let start = read .before .before .before .before .before .before in
-    omega (arith, read .get3 .ensures, c .weigh .ensures, start .pre .shows .header .bytes, start .pre .allowed .1 .bytes)
+    omega (arith, read .header .ensures, c .weigh .ensures, start .pre .shows .header .accepted, allowed-admitted (start .pre .holds) .bytes)
 
-put-requires : tie.Need-put-requires
-put-requires c κs = search needs
+put-header-requires : tie.Need-put-header-requires
+put-header-requires c κs = search needs
 
 add-put : tie.Need-add-put
 add-put c =
@@ -58,75 +60,67 @@ add-put c =
     omega (
       arith,
       first .get .ensures,
-      start .pre .shows .leaves (start .args .class) (own start) .came,
+      start .pre .shows .leaves (start .args .class) (own start) .nextNumber,
       number-below-accepted (start .pre .history .tree) (start .pre .history .calls) (start .pre .lawful .lawful) (start .args .class),
       accepted-most (start .pre .history .tree) (start .pre .history .calls) (start .pre .lawful .lawful),
     )
 
-put-requires-2 : tie.Need-put-requires-2
-put-requires-2 c κs = (narrow (c .before .before .before .before .before .before .before .before .before .before), omega arith)
+put-requires : tie.Need-put-requires
+put-requires c κs = (narrow (c .before .before .before .before .before .before .before .before .before .before), omega arith)
 
-cast-lengths : tie.Need-cast-lengths
-cast-lengths c =
-    let start = c .before .before .before .before .before .before .before .before .before .before .before in
-    omega (arith, start .pre .allowed .1 .short)
+cast-put-length : tie.Need-cast-put-length
+cast-put-length c =
+    let start = c .before .before .before .before .before .before .before .before .before .before .before .before in
+    omega (arith, allowed-admitted (start .pre .holds) .short)
 
-slot-requires : tie.Need-slot-requires
-slot-requires c κs = narrow (c .before .before .before .before .before .before .before .before .before .before .before)
-
-mul-lengths : tie.Need-mul-lengths
-mul-lengths c = omega (arith, narrow (c .before .before .before .before .before .before .before .before .before .before .before .before), c .slot .ensures)
-
-element-write-lengths : tie.Need-element-write-lengths
-element-write-lengths c = omega (arith, narrow (c .before .before .before .before .before .before .before .before .before .before .before .before), c .slot .ensures)
+put-length-requires : tie.Need-put-length-requires
+put-length-requires c κs = narrow (c .before .before .before .before .before .before .before .before .before .before .before .before)
 
 -- the steps before the counts were stored
-abbrev first : tie.After-slot → tie.After-get
-first c = c .before .before .before .before .before .before .before .before .before .before
+abbrev first : tie.After-put-length → tie.After-get
+first c = c .before .before .before .before .before .before .before .before .before .before .before
 
-abbrev second : tie.After-slot → tie.After-get2
-second c = c .before .before .before .before .before .before .before .before
+abbrev second : tie.After-put-length → tie.After-get2
+second c = c .before .before .before .before .before .before .before .before .before
 
-abbrev start : tie.After-slot → tie.Start
+abbrev start : tie.After-put-length → tie.Start
 start c = first c .before .before
 
 -- the table with the counts, for every history that the arrays show
-module _ (c : tie.After-slot) (h : History) (law : Lawful h) (s : Shows (start c .args .words .now) (start c .args .lengths .now) h)
+module _ (c : tie.After-put-length) (h : History) (law : Lawful h) (s : Shows (start c .args .words .now) (start c .args .lengths .now) h)
     (allowed : Allowed (h .tree) (h .calls) (came (start c .args .tick) (start c .args .class) (start c .args .length))) where
   mine : start c .args .class < h .tree .count
-  mine = leaf-class (h .tree) (start c .args .class) (allowed .1 .leaf)
+  mine = leaf-class (h .tree) (start c .args .class) (allowed-admitted allowed .leaf)
 
   number-is : first c .get .result ≡ nextNumber (h .calls) (start c .args .class)
-  number-is = first c .get .ensures ∙ s .leaves (start c .args .class) mine .came
+  number-is = first c .get .ensures ∙ s .leaves (start c .args .class) mine .nextNumber
 
   length-is : second c .get2 .result + length (queue (h .calls) (start c .args .class)) ≡ first c .get .result
   length-is = omega (arith, waiting-shown law s (start c .args .class) mine, second c .get2 .ensures, first c .get .ensures)
 
-  counts : Counted (start c .args .words .now) (c .before .put2 .last .0) (start c .args .class) (accepted (h .calls) + weigh (start c .args .length))
+  counts : Counted (start c .args .words .now) (c .before .before .put .last .0) (start c .args .class) (accepted (h .calls) + weigh (start c .args .length))
       (nextNumber (h .calls) (start c .args .class) + 1)
   counts =
-      let weighed = c .before .before .before .before .before in
-      counted-by (start c .args .class) _ _ _ _ (s .size) (class-narrow law s (start c .args .class) mine) (c .before .before .before .put .ensures) (c .before .put2 .ensures)
-      ((λ i. weighed .before .get3 .ensures i + weighed .weigh .ensures i) ∙ ap (λ (x : ℕ). x + weigh (start c .args .length)) (s .header .bytes))
+      let weighed = c .before .before .before .before .before .before in
+      counted-by (start c .args .class) _ _ _ _ (s .size) (class-narrow law s (start c .args .class) mine) (c .before .before .before .before .put-header .ensures) (c .before .before .put .ensures)
+      ((λ i. weighed .before .header .ensures i + weighed .weigh .ensures i) ∙ ap (λ (x : ℕ). x + weigh (start c .args .length)) (s .header .accepted))
       (ap (λ (x : ℕ). x + 1) number-is)
 
-  slot-is : set (start c .args .lengths .now) (c .slot .result) (start c .args .length)
-      ≡ set (start c .args .lengths .now) (64 * start c .args .class + nextNumber (h .calls) (start c .args .class) % 64) (start c .args .length)
-  slot-is =
-      ap (λ (x : ℕ). set (start c .args .lengths .now) x (start c .args .length)) (c .slot .ensures ∙ ap (λ (x : ℕ). 64 * start c .args .class + x % 64) number-is)
+  length-put : c .put-length .last .0 ≡ set (start c .args .lengths .now) (slotOf (start c .args .class) (nextNumber (h .calls) (start c .args .class))) (start c .args .length)
+  length-put = c .put-length .ensures ∙ ap (λ (x : ℕ). set (start c .args .lengths .now) (slotOf (start c .args .class) x) (start c .args .length)) number-is
 
-  begins : first c .get .result - second c .get2 .result ≡ 0 → BeforeBegin (c .before .put2 .last .0) (h .tree) (h .calls) (start c .args .class) (start c .args .tick) (start c .args .length)
+  begins : first c .get .result - second c .get2 .result ≡ 0 → BeforeBegin (c .before .before .put .last .0) (h .tree) (h .calls) (start c .args .class) (start c .args .tick) (start c .args .length)
   begins none =
       before-begin h law s (start c .args .tick) (start c .args .class) (start c .args .length) allowed counts
       (waits-none (h .calls) (start c .args .class) (omega (arith, length-is)))
 
-  accepted-by : {m : List ℕ} → AfterBegin (c .before .put2 .last .0) m (h .tree) (h .calls) (start c .args .class) (start c .args .tick) (start c .args .length)
+  accepted-by : {m : List ℕ} → AfterBegin (c .before .before .put .last .0) m (h .tree) (h .calls) (start c .args .class) (start c .args .tick) (start c .args .length)
       → AcceptRight h (start c .args .tick) (start c .args .class) (start c .args .length) (first c .get .result) m
-      (set (start c .args .lengths .now) (c .slot .result) (start c .args .length))
+      (c .put-length .last .0)
   accepted-by after =
       record {
         numbered = number-is;
-        shows = shows-came h law s (start c .args .tick) (start c .args .class) (start c .args .length) allowed counts after slot-is;
+        shows = shows-came h law s (start c .args .tick) (start c .args .class) (start c .args .length) allowed counts after length-put;
       }
 
 begin-requires : tie.Need-begin-requires
@@ -136,7 +130,7 @@ begin-requires c κs =
     record {
       tree = pre .history .tree;
       calls = pre .history .calls;
-      before = begins d (pre .history) (pre .lawful) (pre .shows) (pre .allowed) (c .before .if1 .taken);
+      holds = begins d (pre .history) (pre .lawful) (pre .shows) (pre .holds) (c .before .if1 .taken);
     }
 
 returns : tie.Need-returns
@@ -158,16 +152,14 @@ accept-spec =
     get-requires
     get-requires-2
     sub-waiting
-    get-requires-3
+    header-requires
     weigh-requires
     add-bytes
-    put-requires
+    put-header-requires
     add-put
-    put-requires-2
-    cast-lengths
-    slot-requires
-    mul-lengths
-    element-write-lengths
+    put-requires
+    cast-put-length
+    put-length-requires
     begin-requires
     returns
     returns-2)

@@ -4,8 +4,10 @@ use mathlib.Core.Path.{_≡_}
 use Rattle.rules.specs.declared.Departure.{Departure}
 use Rattle.rules.specs.declared.Departure.the-variants.{Leaves, NoneWaits}
 use Rattle.rules.specs.Calls.{left, History}
-use Rattle.rules.specs.Lawful.{Timely, Allowed, Lawful}
-use Rattle.rules.specs.Answers.{outcome, passed, departureChecks, nextClock}
+use Rattle.rules.specs.Lawful.{Allowed, Lawful}
+use Rattle.rules.proofs.Allowed.{Timely, left-allowed}
+use Rattle.rules.specs.Answers.{outcome, passed, departureChecks, ticks, nextClock}
+use Rattle.state.specs.Heads.{EveryHistory}
 use Rattle.state.specs.State.{Shows}
 use Rattle.sched.specs.Promises.{DepartRight}
 use Rattle.sched.proofs.DepartingCall.{refused-right, tick-passes, tick-timely, shown-told, none-right, leaves-right, departs-reached}
@@ -17,7 +19,7 @@ use Rattle.sched.proofs.depart.Tie as tie
 -- what the tick tells, for every history that the arrays show
 module _ (c : tie.After-now) (h : History) (law : Lawful h)
     (shows : Shows (c .before .before .before .before .args .words .now) (c .before .before .before .before .args .lengths .now) h) where
-  passes : (outcome (departureChecks h (c .before .before .before .before .args .stamp)) ≡ passed)
+  passes : (outcome (departureChecks (h .calls) (ticks h (c .before .before .before .before .args .stamp))) ≡ passed)
       × (c .now .given .0 .0 ≡ nextClock h (c .before .before .before .before .args .stamp))
   passes = tick-passes h law shows (c .before .before .before .before .args .stamp) (c .before .before .tick .ensures) (c .now .given .0 .0) (c .now .given .1)
 
@@ -38,7 +40,7 @@ choose-requires c κs =
     let now = c .before .before in
     let p = now .before .before .before .before .pre in
     let told = shown-told (p .lawful) (p .shows) in
-    (record { tree = p .history .tree; calls = p .history .calls; told = told }, timely now (p .history) (p .lawful) (p .shows) .inTime)
+    (record { tree = p .history .tree; calls = p .history .calls; holds = told }, timely now (p .history) (p .lawful) (p .shows) .inTime)
 
 enum-told : tie.Need-enum-told
 enum-told c = search needs
@@ -55,10 +57,9 @@ allowed : (c : tie.After-class) (h : History) → Lawful h
     (c .before .before .before .before .before .before .before .before .before .args .lengths .now) h
     → Allowed (h .tree) (h .calls) (left (c .before .before .before .before .before .now .given .0 .0) (c .class .given .0 .0) (c .class .given .0 .1 .0))
 allowed c h law shows =
-    let now = c .before .before .before .before .before in (
-      timely now h law shows,
-      rw (c .class .given .1) at (c .before .before .choose .ensures (h .tree) (h .calls) (shown-told law shows)),
-    )
+    let now = c .before .before .before .before .before in
+    left-allowed (ticks h (now .before .before .before .before .args .stamp)) (passes now h law shows .1) (passes now h law shows .0)
+    (rw (c .class .given .1) at (c .before .before .choose .ensures (h .tree) (h .calls) (shown-told law shows)))
 
 take-requires : tie.Need-take-requires
 take-requires c κs =
@@ -67,8 +68,7 @@ take-requires c κs =
       history = p .history;
       lawful = p .lawful;
       shows = p .shows;
-      tick = c .before .before .before .before .before .before .before .before .now .given .0 .0;
-      allowed = allowed (c .before .before .before) (p .history) (p .lawful) (p .shows);
+      holds = record { it = c .before .before .before .before .before .before .before .before .now .given .0 .0; holds = allowed (c .before .before .before) (p .history) (p .lawful) (p .shows) };
     }
 
 move-clock-requires-2 : tie.Need-move-clock-requires-2
@@ -77,8 +77,8 @@ move-clock-requires-2 c κs = search needs
 returns : tie.Need-returns
 returns c =
     let start = c .before .before .before .before .before in
-    let right : (h : History) → Lawful h → Shows (start .args .words .now) (start .args .lengths .now) h
-    → DepartRight h (start .args .stamp) (Departure.Refused (c .before .why .given .0 .0)) (start .args .words .now) (start .args .lengths .now) =
+    let right : EveryHistory (start .args .words .now) (start .args .lengths .now)
+    (λ h. DepartRight h (start .args .stamp) (Departure.Refused (c .before .why .given .0 .0)) (start .args .words .now) (start .args .lengths .now)) =
     λ h law shows. refused-right h law shows (start .args .stamp) (c .before .before .before .tick .ensures) (c .before .why .given .0 .0) (c .before .why .given .1)
     in
     (right, let p = start .pre in departs-reached (p .lawful) (start .args .stamp) (Departure.Refused (c .before .why .given .0 .0)) (right (p .history) (p .lawful) (p .shows)))
@@ -88,8 +88,8 @@ returns-2 c =
     let chose = c .before .before .before .before in
     let now = chose .before .before .before in
     let start = now .before .before .before .before in
-    let right : (h : History) → Lawful h → Shows (start .args .words .now) (start .args .lengths .now) h
-    → DepartRight h (start .args .stamp) NoneWaits (c .move-clock .last .0) (start .args .lengths .now) =
+    let right : EveryHistory (start .args .words .now) (start .args .lengths .now)
+    (λ h. DepartRight h (start .args .stamp) NoneWaits (c .move-clock .last .0) (start .args .lengths .now)) =
     λ h law shows.
     none-right h law (start .args .stamp) (start .fits .stamp .fits) shows (passes now h law shows .0) (passes now h law shows .1)
     (rw (c .before .before .enum-told .given .1) at (chose .choose .ensures (h .tree) (h .calls) (shown-told law shows))) (c .move-clock .ensures)
@@ -102,11 +102,11 @@ returns-3 c =
     let chosen = took .before .before .before .before in
     let now = chosen .before .before .before .before .before in
     let start = now .before .before .before .before in
-    let right : (h : History) → Lawful h → Shows (start .args .words .now) (start .args .lengths .now) h
-    → DepartRight h (start .args .stamp) (Leaves (took .take .result)) (c .move-clock2 .last .0) (took .take .last .1 .0) =
+    let right : EveryHistory (start .args .words .now) (start .args .lengths .now)
+    (λ h. DepartRight h (start .args .stamp) (Leaves (took .take .result)) (c .move-clock2 .last .0) (took .take .last .1 .0)) =
     λ h law shows.
     leaves-right h law (start .args .stamp) (start .fits .stamp .fits) (passes now h law shows .0) (passes now h law shows .1) (allowed chosen h law shows)
-    (took .take .ensures h (now .now .given .0 .0) law shows (allowed chosen h law shows)) (c .move-clock2 .ensures)
+    (took .take .ensures h law shows (now .now .given .0 .0) (allowed chosen h law shows)) (c .move-clock2 .ensures)
     in
     (right, let p = start .pre in departs-reached (p .lawful) (start .args .stamp) (Leaves (took .take .result)) (right (p .history) (p .lawful) (p .shows)))
 

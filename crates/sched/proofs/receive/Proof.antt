@@ -6,13 +6,14 @@ use Rattle.rules.specs.Calls.{History, came}
 use Rattle.rules.specs.Lawful.{Lawful, Allowed}
 use Rattle.rules.specs.Answers.{passed, outcome}
 use Rattle.state.specs.State.{Shows}
-use Rattle.sched.specs.StepsArriving.{AdmissionRight, leafChecks}
+use Rattle.rules.specs.Checks.{leafChecks}
+use Rattle.sched.specs.StepsArriving.{AdmissionRight}
 use Rattle.sched.proofs.Arriving.{now-allowed}
 use Rattle.sched.proofs.receive.Statement.{statement}
 use Rattle.sched.proofs.receive.Tie as tie
 
 admit-requires : tie.Need-admit-requires
-admit-requires c κs = search needs
+admit-requires c κs = let start = c .before in record { it = start .args .lengths .now; holds = start .pre .reached }
 
 enum-known-why : tie.Need-enum-known-why
 enum-known-why c = search needs
@@ -26,10 +27,10 @@ module _ (c : tie.After-enum-told) (h : History) (law : Lawful h)
   abbrev start : tie.Start
   start = c .before .before .before .before
 
-  opened : outcome (leafChecks h (start .args .class) (start .args .length)) ≡ passed
+  opened : outcome (leafChecks (h .tree) (h .calls) (start .args .class) (start .args .length)) ≡ passed
   opened =
       subst (AdmissionRight h (start .args .class) (start .args .length)) (c .enum-told .given .1)
-      (c .before .before .admit .ensures h (start .args .lengths .now) law s)
+      (c .before .before .admit .ensures (start .args .lengths .now) h law s)
 
   allowed : Allowed (h .tree) (h .calls) (came (start .args .tick) (start .args .class) (start .args .length))
   allowed = now-allowed law s (start .pre .stamp) (start .args .class) (start .args .length) (start .pre .ticked) _ refl opened
@@ -38,7 +39,7 @@ accept-requires : tie.Need-accept-requires
 accept-requires c κs =
     let told = c .before .before in
     let pre = told .before .before .before .before .pre .reached in
-    record { history = pre .history; lawful = pre .lawful; shows = pre .shows; allowed = allowed told (pre .history) (pre .lawful) (pre .shows) }
+    record { history = pre .history; lawful = pre .lawful; shows = pre .shows; holds = allowed told (pre .history) (pre .lawful) (pre .shows) }
 
 returns : tie.Need-returns
 returns c = λ h law s.
@@ -46,7 +47,7 @@ returns c = λ h law s.
     let asked = told .before .before in
     let args = asked .before .before .args in
     record {
-      checked = subst (AdmissionRight h (args .class) (args .length)) (told .why .given .1) (asked .admit .ensures h (args .lengths .now) law s);
+      checked = subst (AdmissionRight h (args .class) (args .length)) (told .why .given .1) (asked .admit .ensures (args .lengths .now) h law s);
       shows = s;
     }
 

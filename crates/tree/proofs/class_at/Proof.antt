@@ -1,11 +1,11 @@
--- `tree::class_at` meets its contract: past the 64 classes of the array there is no class.
+-- `tree::class_at` meets its contract: past the classes of the array there is no class.
 -- Assumes nothing.
 use Prim.Native.Nat.{_≤_}
 use mathlib.Core.Path.{_≡_, refl, sym, _∙_}
 use native.Mathlib.Omega.{arith}
 use borrow.Author.Needs.{needs}
 use lib.ListN.{length, length-map, List·getD-eq-default}
-use Rattle.tree.specs.Trees.{classAt, noClass}
+use Rattle.tree.specs.Trees.{mostClasses, classAt, noClass}
 use Rattle.tree.proofs.class_at.Statement.{statement}
 use Rattle.tree.proofs.class_at.Tie as tie
 
@@ -16,7 +16,7 @@ returns : tie.Need-returns
 unfolding classAt
 returns c =
     let start = c .before .before in
-    let held : length (start .args .t1 .classes) ≡ 64 = sym (length-map (start .args .t1 .classes) _) ∙ start .good .0 .1 .1 .1 .0 .1 .0 .1 in
+    let held : length (start .args .t1 .classes) ≡ mostClasses = sym (length-map (start .args .t1 .classes) _) ∙ start .good .0 .1 .1 .1 .0 .1 .0 .1 in
     let past : length (start .args .t1 .classes) ≤ start .args .number = omega arith in
     c .no-class .ensures ∙ sym (List·getD-eq-default (start .args .t1 .classes) noClass past)
 

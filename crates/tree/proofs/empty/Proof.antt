@@ -3,7 +3,7 @@
 use mathlib.Core.Path.{ap}
 use borrow.Author.Needs.{needs}
 use lib.ListN.{replicate}
-use Rattle.tree.specs.Trees.{emptyTree}
+use Rattle.tree.specs.Trees.{mostClasses, emptyTree}
 use Rattle.tree.specs.declared.Class.{Class}
 use Rattle.tree.specs.declared.Tree.{Tree}
 use Rattle.tree.proofs.empty.Statement.{statement}
@@ -13,7 +13,7 @@ no-class-requires : tie.Need-no-class-requires
 no-class-requires c κs = search needs
 
 holding : Class → Tree
-holding c = record { count = 0; classes = replicate 64 c }
+holding c = record { count = 0; classes = replicate mostClasses c }
 
 returns : tie.Need-returns
 unfolding emptyTree holding

@@ -9,7 +9,7 @@ undelayed-requires : tie.Need-undelayed-requires
 undelayed-requires c κs = search needs
 
 both-requires : tie.Need-both-requires
-both-requires c κs = (rw (c .undelayed .ensures) (early-rising _ (c .before .pre .0)), c .before .pre .1, c .before .pre .2, c .before .pre .3)
+both-requires c κs = (rw (c .undelayed .ensures) (early-rising _ (c .before .pre .0)), search needs, search needs, search needs)
 
 returns : tie.Need-returns
 returns c = rw (c .before .undelayed .ensures) at (c .both .ensures)

@@ -1,6 +1,6 @@
 -- `curve::Kept::with` meets its contract: each slope of a rising curve is a right rate.
 -- Assumes nothing.
-use Rattle.curve.specs.Pieces.{keptWith}
+use Rattle.curve.specs.Keeping.{keptWith}
 use Rattle.curve.proofs.Laws.Amount.{rising-slopes}
 use borrow.Author.Needs.{needs}
 use Rattle.curve.proofs.Kept.with.Statement.{statement}

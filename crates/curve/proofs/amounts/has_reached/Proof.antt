@@ -4,7 +4,7 @@
 use Prim.Native.Nat.{_-_, _*_, _≤_, _<_}
 use native.Mathlib.Nat.{le-trans, lt-of-not-le}
 use native.Mathlib.Omega.{arith}
-use Rattle.curve.specs.Pieces.{lastSlope}
+use Rattle.curve.specs.Curves.{latestBend, lastSlope}
 use Rattle.curve.proofs.Laws.Answers.{leb-exactly, told-yes, told-no}
 use Rattle.curve.proofs.Laws.Amount.{rising-slopes, last-slope-least, last-slope-most}
 use borrow.Author.Needs.{needs}
@@ -13,6 +13,9 @@ use Rattle.curve.proofs.amounts.has_reached.Tie as tie
 
 last-slope-requires : tie.Need-last-slope-requires
 last-slope-requires c κs = search needs
+
+cast-less : tie.Need-cast-less
+cast-less c = search needs
 
 less-requires : tie.Need-less-requires
 less-requires c κs = search needs
@@ -28,7 +31,7 @@ returns c =
 reached-requires : tie.Need-reached-requires
 reached-requires c κs =
     let start = c .before .before .before .before in
-    let l : lastSlope (start .args .curve) * (start .args .tick - 1048576) < start .args .parts =
+    let l : lastSlope (start .args .curve) * (start .args .tick - latestBend) < start .args .parts =
     rw (c .before .before .before .last-slope .ensures, c .before .before .less .ensures) at (lt-of-not-le (told-no _ (c .before .has-risen .ensures) (c .if1 .left)))
     in
     omega (arith, last-slope-most (start .args .curve) (start .pre .0) (start .args .tick), start .pre .1)
@@ -41,6 +44,7 @@ has-reached-spec =
     tie.close
     (tie.spec
     last-slope-requires
+    cast-less
     less-requires
     has-risen-requires
     returns

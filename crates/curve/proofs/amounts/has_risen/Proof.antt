@@ -5,14 +5,14 @@ use mathlib.Core.Path.{sym}
 use native.Mathlib.Nat.{mul-le-mul}
 use native.Mathlib.Omega.{arith}
 use borrow.Author.Needs.{needs}
-use Rattle.curve.specs.Curves.{RightRate}
+use Rattle.curve.specs.Curves.{whole, RightRate}
 use Rattle.curve.proofs.Laws.Answers.{leb-exactly}
 use Rattle.curve.proofs.Laws.Amount.{line-halves}
 use Rattle.curve.proofs.amounts.has_risen.Statement.{statement}
 use Rattle.curve.proofs.amounts.has_risen.Tie as tie
 
 -- a rate's multiple of a number of 32 bits
-small : {m x : ℕ} → RightRate m → x ≤ 4294967295 → m * x ≤ 65536 * 4294967295
+small : {m x : ℕ} → RightRate m → x ≤ 4294967295 → m * x ≤ whole * 4294967295
 small r l = mul-le-mul (r .below) l
 
 mul-high : tie.Need-mul-high

@@ -5,8 +5,8 @@ use Prim.Native.Nat.{ℕ, _-_, _≤_, _<_}
 use lib.ListN.{getD}
 use native.Mathlib.Omega.{arith}
 use borrow.Author.Count.{below-more}
-use Rattle.curve.specs.Curves.{inParts}
-use Rattle.curve.specs.Fit.{total, bendOf}
+use Rattle.curve.specs.Curves.{inParts, bendOf}
+use Rattle.curve.specs.Fit.{total}
 use Rattle.curve.specs.declared.Curve.the-variants.{None}
 use Rattle.curve.proofs.Laws.Answers.{untold-no, untold-yes, exactly-iff}
 use Rattle.curve.proofs.Laws.Fit.{bends-enough, slopes-needed, fit-at, every-bend}

@@ -5,7 +5,8 @@ use Prim.Native.Nat.{ℕ, _+_, _-_, _/_, _≤_, _<_}
 use native.Mathlib.Nat.{lt-of-le-of-lt, le-antisymm}
 use native.Mathlib.Omega.{arith}
 use Rattle.curve.specs.Answers.{NotBefore}
-use Rattle.curve.specs.Curves.{amount, Reaches}
+use Rattle.curve.specs.Curves.{amount}
+use Rattle.curve.specs.Keeping.{Reaches}
 use Rattle.curve.proofs.Laws.Amount.{amount-mono, reached-later}
 use Rattle.curve.proofs.search.halve.Statement.{statement}
 use Rattle.curve.proofs.search.halve.Tie as tie

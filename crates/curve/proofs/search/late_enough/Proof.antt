@@ -1,21 +1,21 @@
 -- `curve::search::late_enough` meets its contract: with the step doubled the tick is no more than doubled; an amount at a doubled tick is at most doubled,
 -- but for 2^36, and a tick that is not late enough is not far past the amount, so neither passes 64 bits. The measure is what is left of 2^58.
 -- Assumes nothing.
-use Prim.Native.Nat.{ℕ, _+_, _-_, _*_, _/_, _≤_, _<_, _^_}
+use Prim.Native.Nat.{ℕ, suc, _+_, _-_, _*_, _/_, _≤_, _<_, _^_}
 use native.Mathlib.Omega.{arith}
-use Rattle.curve.specs.Curves.{amount, Rising}
+use Rattle.curve.specs.Curves.{whole, latestBend, amount, Rising}
 use Rattle.curve.specs.declared.Curve.{Curve}
 use Rattle.curve.proofs.Laws.Amount.{amount-mono, amount-sum, lead-rise, amount-doubled, rising-most, rising-soon}
 use Rattle.curve.proofs.search.late_enough.Statement.{statement}
 use Rattle.curve.proofs.search.late_enough.Tie as tie
 
 -- what the first step, and a step that is doubled, can add
-first : (S : Curve) → Rising S → (t y : ℕ) → amount S t < y → amount S (t + ((y - amount S t) / 65536 + 1)) ≤ 2 * y + 65536 * 1048577
+first : (S : Curve) → Rising S → (t y : ℕ) → amount S t < y → amount S (t + ((y - amount S t) / whole + 1)) ≤ 2 * y + whole * suc latestBend
 first S r t y l =
-    let step = (y - amount S t) / 65536 + 1 in
+    let step = (y - amount S t) / whole + 1 in
     omega (arith, amount-sum S r t step, lead-rise S r t, rising-most S r step)
 
-doubled : (S : Curve) → Rising S → (t x : ℕ) → amount S (t + 2 * x) ≤ 2 * amount S (t + x) + 65536 * 1048576
+doubled : (S : Curve) → Rising S → (t x : ℕ) → amount S (t + 2 * x) ≤ 2 * amount S (t + x) + whole * latestBend
 doubled S r t x = omega (arith, amount-mono S {t = t + 2 * x} {u = 2 * (t + x)} (omega arith), amount-doubled S r (t + x))
 
 abbrev Inv-loop : tie.InvT-loop
@@ -29,7 +29,7 @@ not-yet : (c : tie.Then1 Inv-loop μ-loop)
     → amount (c .before .before .before .before .args .curve) (c .before .before .before .before .args .from + c .before .before .loop .step) < c .before .before .before .before .args .parts
 not-yet c = omega arith
 
-soon : (c : tie.Then1 Inv-loop μ-loop) → c .before .before .before .before .args .from + c .before .before .loop .step < c .before .before .before .before .args .parts + 1048576
+soon : (c : tie.Then1 Inv-loop μ-loop) → c .before .before .before .before .args .from + c .before .before .loop .step < c .before .before .before .before .args .parts + latestBend
 soon c = rising-soon _ (c .before .before .before .before .pre .0) (not-yet c)
 
 reached-requires : tie.Need-reached-requires Inv-loop μ-loop

@@ -9,13 +9,13 @@ use Rattle.file.proofs.reader.read.Statement.{statement}
 use Rattle.file.proofs.reader.read.Tie as tie
 
 opened-requires : tie.Need-opened-requires
-opened-requires c κs = subst (HeaderJudged (now (c .before .before .before .before .args .file))) (c .enum-told .given .1) (c .before .before .header .ensures)
+opened-requires c κs = subst (HeaderJudged (now (c .before .before .before .before .args .file)) _) (c .enum-told .given .1) (c .before .before .header .ensures)
 
 returns : tie.Need-returns
 returns c =
     let file = now (c .before .before .before .before .before .before .args .file) in
     let e = c .refused .ensures in
-    reads-refused file (header-refused file _ _ _ (subst (HeaderJudged file) (c .before .before .why .given .1) (c .before .before .before .before .header .ensures))) (e .0) (e .1)
+    reads-refused file (header-refused file _ _ _ _ (subst (HeaderJudged file _) (c .before .before .why .given .1) (c .before .before .before .before .header .ensures))) (e .0) (e .1)
 
 pub read-spec : {M : Type 1} → statement M
 read-spec =

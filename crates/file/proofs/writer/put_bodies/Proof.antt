@@ -26,10 +26,7 @@ abbrev μ-loop : tie.MeasureT-loop
 μ-loop tree out₀ count at₀ i₀ out at i = count - i
 
 entry-at-requires : tie.Need-entry-at-requires Inv-loop μ-loop
-entry-at-requires c κs = omega arith
-
-cast-at : tie.Need-cast-at Inv-loop μ-loop
-cast-at c = omega arith
+entry-at-requires c κs = tt
 
 loop-holds : tie.Need-loop-holds Inv-loop μ-loop
 loop-holds c =
@@ -37,8 +34,8 @@ loop-holds c =
     let out = c .before .before .args .out .now in
     (omega arith, omega (arith, place-first tree), refl, no-word Big out (bodyPlace tree 0) ∙ ap (λ (ws : List ℕ). sets out (bodyPlace tree 0) (bytesOf Big ws)) (sym (numbered-none (λ (k : ℕ). bodyWords (classAt tree k)))))
 
-body-bytes-requires : tie.Need-body-bytes-requires Inv-loop μ-loop
-body-bytes-requires c κs = tt
+class-bytes-requires : tie.Need-class-bytes-requires Inv-loop μ-loop
+class-bytes-requires c κs = tt
 
 cast-end : tie.Need-cast-end Inv-loop μ-loop
 cast-end c = omega (arith, body-most (curveOf (c .before .before .before .before .before .args .tree) (c .before .before .loop .i)))
@@ -56,7 +53,7 @@ part-put-body-start : tie.Need-part-put-body-start Inv-loop μ-loop
 part-put-body-start c = omega arith
 
 -- the part that is lent to a body lies within the buffer
-part-within : (c : tie.After-body-bytes Inv-loop μ-loop) → c .before .before .loop .at + c .body-bytes .result ≤ length (c .before .before .loop .out)
+part-within : (c : tie.After-class-bytes Inv-loop μ-loop) → c .before .before .loop .at + c .class-bytes .result ≤ length (c .before .before .loop .out)
 part-within c =
     let tree = c .before .before .before .before .before .args .tree in
     let i = c .before .before .loop .i in
@@ -64,8 +61,8 @@ part-within c =
     omega (arith, place-next tree i, places-rise tree (i + 1) (tree .count) (add-one-le here))
 
 -- and is as long as the body
-part-long : (c : tie.After-class-at Inv-loop μ-loop) → c .before .before .body-bytes .result ≡ curveBytes (c .class-at .result .curve)
-part-long c = c .before .before .body-bytes .ensures ∙ sym (ap (λ (k : Class). curveBytes (k .curve)) (c .class-at .ensures))
+part-long : (c : tie.After-class-at Inv-loop μ-loop) → c .before .before .class-bytes .result ≡ curveBytes (c .class-at .result .curve)
+part-long c = c .before .before .class-bytes .ensures ∙ sym (ap (λ (k : Class). curveBytes (k .curve)) (c .class-at .ensures))
 
 part-put-body-end : tie.Need-part-put-body-end Inv-loop μ-loop
 part-put-body-end c = part-within c
@@ -88,7 +85,7 @@ loop-again c =
     let tree = start .tree in
     let loop = c .before .before .before .before .before .before .before .loop in
     let i = loop .i in
-    let bytes = c .before .before .before .before .before .body-bytes in
+    let bytes = c .before .before .before .before .before .class-bytes in
     let body = c .before .before .put-body in
     let class = c .before .before .before .class-at in
     let after : _ ≡ sets (loop .out) (loop .at) (body .last .0) =
@@ -121,9 +118,8 @@ put-bodies-spec =
     Inv-loop
     μ-loop
     entry-at-requires
-    cast-at
     loop-holds
-    body-bytes-requires
+    class-bytes-requires
     cast-end
     add-end
     sub-put-body

@@ -23,7 +23,10 @@ abbrev μ-loop : tie.MeasureT-loop
 μ-loop tree out₀ count at₀ i₀ out at i = count - i
 
 entry-at-requires : tie.Need-entry-at-requires Inv-loop μ-loop
-entry-at-requires c κs = omega arith
+entry-at-requires c κs = tt
+
+cast-at : tie.Need-cast-at Inv-loop μ-loop
+cast-at c = omega arith
 
 loop-holds : tie.Need-loop-holds Inv-loop μ-loop
 loop-holds c =
@@ -32,13 +35,10 @@ loop-holds c =
     (omega arith, omega (arith, place-first tree), refl, no-word Big out 16 ∙ ap (λ (ws : List ℕ). sets out 16 (bytesOf Big ws)) (sym (numbered-none (entryWords tree))))
 
 entry-at-requires-2 : tie.Need-entry-at-requires-2 Inv-loop μ-loop
-entry-at-requires-2 c κs = omega arith
+entry-at-requires-2 c κs = tt
 
-cast-entry : tie.Need-cast-entry Inv-loop μ-loop
-cast-entry c = omega arith
-
-body-bytes-requires : tie.Need-body-bytes-requires Inv-loop μ-loop
-body-bytes-requires c κs = tt
+class-bytes-requires : tie.Need-class-bytes-requires Inv-loop μ-loop
+class-bytes-requires c κs = tt
 
 put-word-requires : tie.Need-put-word-requires Inv-loop μ-loop
 put-word-requires c κs = omega arith
@@ -80,7 +80,7 @@ loop-again c =
           (omega (arith, contents-length tree i))
           (loop .inv .3)
           (first .ensures ∙ ap (λ (n : ℕ). sets (loop .out) (entry .result) (wordBytes Big n)) (loop .inv .1)))
-          (c .before .before .put-word2 .ensures ∙ ap (λ (n : ℕ). sets (first .last .0) (entry .result + 4) (wordBytes Big n)) (c .before .before .before .before .before .before .before .before .body-bytes .ensures))
+          (c .before .before .put-word2 .ensures ∙ ap (λ (n : ℕ). sets (first .last .0) (entry .result + 4) (wordBytes Big n)) (c .before .before .before .before .before .before .before .before .class-bytes .ensures))
           ∙ ap (λ (ws : List ℕ). sets out 16 (bytesOf Big ws)) (append-assoc xs (bodyPlace tree i ∷ []) (curveBytes (curveOf tree i) ∷ []) ∙ sym (numbered-next (entryWords tree) i)),
     )
 
@@ -100,10 +100,10 @@ put-contents-spec =
     Inv-loop
     μ-loop
     entry-at-requires
+    cast-at
     loop-holds
     entry-at-requires-2
-    cast-entry
-    body-bytes-requires
+    class-bytes-requires
     put-word-requires
     add-put-word
     put-word-requires-2

@@ -8,7 +8,7 @@ use native.Mathlib.Omega.{arith}
 use lib.ListN.{drop, length-append}
 use Rattle.tree.specs.declared.Refusal.the-variants.{SmallBuffer}
 use Rattle.tree.specs.declared.Verdict.the-variants.{Right, Refused}
-use Rattle.tree.specs.Rules.Rule.{broken, kept}
+use Rattle.tree.specs.Rules.Checking.{broken, kept}
 use Rattle.tree.proofs.Verdicts.{passes}
 use Rattle.file.specs.declared.writer.Written.{Written}
 use Rattle.file.specs.Format.{entryAt}
@@ -32,7 +32,7 @@ returns c =
       verdict = Refused SmallBuffer 0;
       judged = passes _ _ (Refused SmallBuffer 0) (search needs) (broken refl (record { zero = refl; fault = λ room. omega arith }));
       answered = refl;
-      left = refl;
+      buffer = refl;
     }
 
 put-header-requires : tie.Need-put-header-requires
@@ -61,7 +61,7 @@ returns-2 c =
       verdict = Right;
       judged = passes tree _ Right (start .pre) (kept (omega arith) refl);
       answered = ap Written.Bytes (total .ensures);
-      left =
+      buffer =
           words-on Big old 0 (headerWords tree ++ contentsWords tree (tree .count)) (bodiesWords tree (tree .count)) _ _ (entryAt (tree .count))
           (simp length-append (omega (arith, contents-length tree (tree .count))))
           (words-on Big old 0 (headerWords tree) (contentsWords tree (tree .count)) _ _ 16 refl (header .ensures) (contents .ensures))

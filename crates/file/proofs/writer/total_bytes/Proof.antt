@@ -16,13 +16,16 @@ abbrev μ-loop : tie.MeasureT-loop
 μ-loop tree count at₀ i₀ at i = count - i
 
 entry-at-requires : tie.Need-entry-at-requires Inv-loop μ-loop
-entry-at-requires c κs = c .pre .below
+entry-at-requires c κs = tt
+
+cast-at : tie.Need-cast-at Inv-loop μ-loop
+cast-at c = omega arith
 
 loop-holds : tie.Need-loop-holds Inv-loop μ-loop
 loop-holds c = omega (arith, place-first (c .before .args .tree))
 
-body-bytes-requires : tie.Need-body-bytes-requires Inv-loop μ-loop
-body-bytes-requires c κs = tt
+class-bytes-requires : tie.Need-class-bytes-requires Inv-loop μ-loop
+class-bytes-requires c κs = tt
 
 add-at : tie.Need-add-at Inv-loop μ-loop
 add-at c =
@@ -52,8 +55,9 @@ total-bytes-spec =
     Inv-loop
     μ-loop
     entry-at-requires
+    cast-at
     loop-holds
-    body-bytes-requires
+    class-bytes-requires
     add-at
     add-i
     loop-less

@@ -31,7 +31,7 @@ returns c =
       verdict = Refused why class;
       judged = refused-on tree _ why class (subst (Judged tree) (refused .1) (c .before .before .before .check .ensures));
       answered = refl;
-      left = refl;
+      buffer = refl;
     }
 
 same-length : tie.Need-same-length

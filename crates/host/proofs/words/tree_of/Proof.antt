@@ -7,13 +7,14 @@ use native.Mathlib.Omega.{arith}
 use borrow.Author.Needs.{needs}
 use Rattle.tree.specs.declared.Tree.{Tree}
 use Rattle.tree.specs.Trees.{emptyTree}
+use Rattle.state.specs.Table.{CLASSES}
 use Rattle.host.specs.Words.{wordAt, firstClasses}
 use Rattle.host.proofs.Saying.{filled, filled-next, tree-is}
 use Rattle.host.proofs.words.tree_of.Statement.{statement}
 use Rattle.host.proofs.words.tree_of.Tie as tie
 
 pub record Filled (words : List ℕ) (tree : Tree) (i : ℕ) : Type 0 where
-  pub within : i ≤ 64
+  pub within : i ≤ CLASSES
   pub counted : tree .count ≡ wordAt words 0
   pub classes : tree .classes ≡ filled words i
 
@@ -21,7 +22,7 @@ abbrev Inv-loop : tie.InvT-loop
 Inv-loop words tree₀ i₀ tree i = Filled words tree i
 
 abbrev μ-loop : tie.MeasureT-loop
-μ-loop words tree₀ i₀ tree i = 64 - i
+μ-loop words tree₀ i₀ tree i = CLASSES - i
 
 loop-holds : tie.Need-loop-holds Inv-loop μ-loop
 unfolding emptyTree firstClasses
@@ -40,8 +41,8 @@ returns : tie.Need-returns Inv-loop μ-loop
 returns c =
     let l = c .before .loop in
     let words = c .before .before .before .before .before .args .words .now in
-    let end : l .i ≡ 64 = omega (arith, l .inv .within) in
-    tree-is words (l .tree) (l .inv .counted) (l .inv .classes ∙ ap (filled words) end)
+    let mostBytesAccepted : l .i ≡ CLASSES = omega (arith, l .inv .within) in
+    tree-is words (l .tree) (l .inv .counted) (l .inv .classes ∙ ap (filled words) mostBytesAccepted)
 
 pub tree-of-spec : {M : Type 1} → statement M
 tree-of-spec =

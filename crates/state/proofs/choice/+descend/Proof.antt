@@ -41,7 +41,7 @@ descend-returns t c = λ tree cs d. reached (deep-leaf d (c .if1 .taken))
 
 descend-get-requires : (t : ℕ) → descend-lts.Need-get-requires (claims t) (descend-at t) descend.Post
 descend-get-requires t c κs =
-    let d = c .before .pre .1 .descending in
+    let d = c .before .pre .1 .holds in
     (omega (arith, d .class, count-most (c .before .pre .1 .tree) (d .told .grown)), omega arith)
 
 descend-returns-2 : (t : ℕ) → descend-lts.Need-returns-2 (claims t) (descend-at t) descend.Post
@@ -50,7 +50,7 @@ descend-returns-2 t c = λ tree cs d. reached (childless d (sym (c .before .get 
 descend-lightest-requires : (t : ℕ) → descend-lts.Need-lightest-requires (claims t) (descend-at t) descend.Post
 descend-lightest-requires t c κs =
     let pre = c .before .before .before .pre .1 in
-    record { tree = pre .tree; calls = pre .calls; stepping = steps-down (pre .descending) (λ e. c .if2 .left (c .before .get .ensures ∙ e)) }
+    record { tree = pre .tree; calls = pre .calls; holds = steps-down (pre .holds) (λ e. c .if2 .left (c .before .get .ensures ∙ e)) }
 
 descend-sub-descend : (t : ℕ) → descend-lts.Need-sub-descend (claims t) (descend-at t) descend.Post
 descend-sub-descend t c =
@@ -62,9 +62,9 @@ descend-descend-requires t c κs =
     let start = c .before .before .before .before in
     let pre = start .pre .1 in
     let some = c .before .before .before .if1 .left in
-    let s = steps-down (pre .descending) (λ e. c .before .if2 .left (c .before .before .get .ensures ∙ e)) in (
+    let s = steps-down (pre .holds) (λ e. c .before .if2 .left (c .before .before .get .ensures ∙ e)) in (
       omega (arith, start .pre .0),
-      record { tree = pre .tree; calls = pre .calls; descending = descends-on (pre .descending) (c .lightest .result) some (c .lightest .ensures (pre .tree) (pre .calls) s) },
+      record { tree = pre .tree; calls = pre .calls; holds = descends-on (pre .holds) (c .lightest .result) some (c .lightest .ensures (pre .tree) (pre .calls) s) },
     )
 
 descend-returns-3 : (t : ℕ) → descend-lts.Need-returns-3 (claims t) (descend-at t) descend.Post

@@ -21,7 +21,7 @@ get-requires c κs = search needs
 descend-requires : tie.Need-descend-requires
 descend-requires c κs =
     let pre = c .before .before .before .before .before .pre .0 in
-    record { tree = pre .tree; calls = pre .calls; descending = root-descends (pre .told) (λ e. c .if1 .left (c .before .get .ensures ∙ e)) }
+    record { tree = pre .tree; calls = pre .calls; holds = root-descends (pre .holds) (λ e. c .if1 .left (c .before .get .ensures ∙ e)) }
 
 returns : tie.Need-returns
 returns c = λ tree cs told. rw (c .before .class .given .1) at (c .before .before .before .soonest .ensures tree cs told)

@@ -7,6 +7,7 @@ use mathlib.Core.List.{List}
 use native.Mathlib.Omega.{arith}
 use Rattle.tree.specs.declared.Tree.{Tree}
 use Rattle.rules.specs.Calls.{Call}
+use Rattle.state.specs.Table.{CLASSES}
 use Rattle.state.specs.StepsChoosing.{Stepping}
 use Rattle.state.proofs.Choosing.{count-most, Walked, walked-is, walked-none, walked-below, walked-passive, walked-later, walked-first, walked-falls, lightest-right}
 use Rattle.state.proofs.choice.lightest.Statement.{statement}
@@ -20,7 +21,7 @@ abbrev μ-loop : tie.MeasureT-loop
 
 get-requires : tie.Need-get-requires Inv-loop μ-loop
 get-requires c κs =
-    let s = c .pre .stepping in
+    let s = c .pre .holds in
     (omega (arith, s .class, count-most (c .pre .tree) (s .told .grown)), omega arith)
 
 loop-holds : tie.Need-loop-holds Inv-loop μ-loop
@@ -36,10 +37,10 @@ below c tree cs s =
     walked-below (start .args .words .now) tree (start .args .class) (head .best) (head .least) (head .child) (head .inv tree cs s) (c .loop-test .taken)
     (count-most tree (s .told .grown))
 
-small : (c : tie.In-loop Inv-loop μ-loop) → c .before .loop .child < 64
+small : (c : tie.In-loop Inv-loop μ-loop) → c .before .loop .child < CLASSES
 small c =
     let pre = c .before .before .before .pre in
-    omega (arith, below c (pre .tree) (pre .calls) (pre .stepping) .1, count-most (pre .tree) (pre .stepping .told .grown))
+    omega (arith, below c (pre .tree) (pre .calls) (pre .holds) .1, count-most (pre .tree) (pre .holds .told .grown))
 
 get-requires-2 : tie.Need-get-requires-2 Inv-loop μ-loop
 get-requires-2 c κs = (small c, omega arith)
@@ -56,7 +57,7 @@ loop-less c =
     let start = turn .before .before .before in
     let head = turn .before .loop in
     let pre = start .pre in
-    let s = pre .stepping in
+    let s = pre .holds in
     let class = below turn (pre .tree) (pre .calls) s in
     let most = count-most (pre .tree) (s .told .grown) in
     let stored = c .get4 .ensures in

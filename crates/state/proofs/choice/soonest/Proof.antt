@@ -5,29 +5,30 @@ use mathlib.Core.Path.{_∙_}
 use mathlib.Core.Logic.{⊎-elim}
 use native.Mathlib.Omega.{arith}
 use borrow.Author.Needs.{needs}
+use Rattle.state.specs.Table.{CLASSES}
 use Rattle.state.proofs.Choosing.{count-most, Looked, looked-none, looked-past, looked-new, soonest-right}
 use Rattle.state.proofs.choice.soonest.Statement.{statement}
 use Rattle.state.proofs.choice.soonest.Tie as tie
 
 abbrev Inv-loop : tie.InvT-loop
-Inv-loop words tick count found₀ least₀ i₀ found least i = (i ≤ count) × (count ≤ 64) × Looked words tick i least found
+Inv-loop words tick count found₀ least₀ i₀ found least i = (i ≤ count) × (count ≤ CLASSES) × Looked words tick i least found
 
 abbrev μ-loop : tie.MeasureT-loop
 μ-loop words tick count found₀ least₀ i₀ found least i = count - i
 
-get-requires : tie.Need-get-requires Inv-loop μ-loop
-get-requires c κs = search needs
+header-requires : tie.Need-header-requires Inv-loop μ-loop
+header-requires c κs = search needs
 
 loop-holds : tie.Need-loop-holds Inv-loop μ-loop
 loop-holds c =
-    let told = c .before .pre .0 .told in
-    (omega arith, omega (arith, c .get .ensures, told .count, count-most (c .before .pre .0 .tree) (told .grown)), looked-none (c .before .args .words .now) (c .before .args .tick))
+    let told = c .before .pre .0 .holds in
+    (omega arith, omega (arith, c .header .ensures, told .count, count-most (c .before .pre .0 .tree) (told .grown)), looked-none (c .before .args .words .now) (c .before .args .tick))
+
+get-requires : tie.Need-get-requires Inv-loop μ-loop
+get-requires c κs = search needs
 
 get-requires-2 : tie.Need-get-requires-2 Inv-loop μ-loop
 get-requires-2 c κs = search needs
-
-get-requires-3 : tie.Need-get-requires-3 Inv-loop μ-loop
-get-requires-3 c κs = search needs
 
 add-i : tie.Need-add-i Inv-loop μ-loop
 add-i c = omega arith
@@ -41,7 +42,7 @@ loop-again c =
     let tick = c .before .before .before .before .before .args .tick in
     let head = c .before .before .before .loop in
     let was = c .before .before .before .loop .inv .2 in
-    let eligible = c .before .get2 .ensures in (
+    let eligible = c .before .get .ensures in (
       omega arith,
       omega arith,
       ⊎-elim
@@ -58,7 +59,7 @@ returns c = λ tree cs told.
     let start = c .before .before .before in
     let head = c .before .loop in
     soonest-right (start .args .words .now) tree cs told (start .args .tick) (start .pre .1) (head .i) (head .least) (head .found)
-    (omega (arith, told .count, c .before .before .get .ensures)) (head .inv .2)
+    (omega (arith, told .count, c .before .before .header .ensures)) (head .inv .2)
 
 pub soonest-spec : {M : Type 1} → statement M
 soonest-spec =
@@ -66,10 +67,10 @@ soonest-spec =
     (tie.spec
     Inv-loop
     μ-loop
-    get-requires
+    header-requires
     loop-holds
+    get-requires
     get-requires-2
-    get-requires-3
     add-i
     loop-less
     loop-again

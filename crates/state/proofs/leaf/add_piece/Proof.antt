@@ -3,7 +3,7 @@
 use mathlib.Core.Path.{ap, _∙_}
 use native.Mathlib.Omega.{arith}
 use borrow.Author.Needs.{needs}
-use Rattle.curve.specs.Pieces.{keptWith}
+use Rattle.curve.specs.Keeping.{keptWith}
 use Rattle.state.specs.Steps.{withKept}
 use Rattle.state.proofs.leaf.add_piece.Statement.{statement}
 use Rattle.state.proofs.leaf.add_piece.Tie as tie

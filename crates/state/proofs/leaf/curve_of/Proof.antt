@@ -1,58 +1,47 @@
--- `state::leaf::curve_of` meets its contract: the kinds are told apart in the definition's order.
+-- `state::leaf::curve_of` meets its contract: what the codec says of the four columns.
 -- Assumes nothing.
-use mathlib.Core.Path.{sym, _∙_}
+use mathlib.Core.Path.{_∙_}
 use borrow.Author.Needs.{needs}
-use Rattle.state.proofs.LeafCells.{by-none, by-straight, by-front, by-delayed}
+use Rattle.curve.specs.Codec.{kindCurve}
 use Rattle.state.proofs.leaf.curve_of.Statement.{statement}
 use Rattle.state.proofs.leaf.curve_of.Tie as tie
 
 get-requires : tie.Need-get-requires
 get-requires c κs = search needs
 
+cast-kind : tie.Need-cast-kind
+cast-kind c = search needs
+
 get-requires-2 : tie.Need-get-requires-2
 get-requires-2 c κs = search needs
 
-cast-rate : tie.Need-cast-rate
-cast-rate c = search needs
+cast-first : tie.Need-cast-first
+cast-first c = search needs
 
 get-requires-3 : tie.Need-get-requires-3
 get-requires-3 c κs = search needs
 
-cast-bend : tie.Need-cast-bend
-cast-bend c = search needs
+cast-second : tie.Need-cast-second
+cast-second c = search needs
 
 get-requires-4 : tie.Need-get-requires-4
 get-requires-4 c κs = search needs
 
-cast-last : tie.Need-cast-last
-cast-last c = search needs
+cast-third : tie.Need-cast-third
+cast-third c = search needs
+
+decode-requires : tie.Need-decode-requires
+decode-requires c κs = search needs
 
 returns : tie.Need-returns
 returns c =
-    let g = c .before in
-    by-none _ _ _ _ (sym (g .before .before .before .get .ensures) ∙ c .if1 .taken)
-
-returns-2 : tie.Need-returns-2
-returns-2 c =
-    let g = c .before .before in
-    let kind = g .before .before .before .get .ensures in
-    by-straight _ _ _ _ (λ e. c .before .if1 .left (kind ∙ e)) (sym kind ∙ c .if2 .taken) (g .before .before .get2 .ensures)
-
-returns-3 : tie.Need-returns-3
-returns-3 c =
-    let g = c .before .before .before in
-    let kind = g .before .before .before .get .ensures in
-    by-front _ _ _ _ (λ e. c .before .before .if1 .left (kind ∙ e)) (λ e. c .before .if2 .left (kind ∙ e)) (sym kind ∙ c .if3 .taken) (g .before .before .get2 .ensures)
-    (g .before .get3 .ensures) (g .get4 .ensures)
-
-returns-4 : tie.Need-returns-4
-returns-4 c =
-    let g = c .before .before .before in
-    let kind = g .before .before .before .get .ensures in
-    by-delayed _ _ _ _ (λ e. c .before .before .if1 .left (kind ∙ e)) (λ e. c .before .if2 .left (kind ∙ e)) (λ e. c .if3 .left (kind ∙ e)) (g .before .before .get2 .ensures)
-    (g .before .get3 .ensures)
+    let third = c .before in
+    let second = third .before in
+    let first = second .before in
+    c .decode .ensures
+    ∙ (λ i. kindCurve (first .before .get .ensures i) (first .get2 .ensures i) (second .get3 .ensures i) (third .get4 .ensures i))
 
 pub curve-of-spec : {M : Type 1} → statement M
 curve-of-spec =
     tie.close
-    (tie.spec get-requires get-requires-2 cast-rate get-requires-3 cast-bend get-requires-4 cast-last returns returns-2 returns-3 returns-4)
+    (tie.spec get-requires cast-kind get-requires-2 cast-first get-requires-3 cast-second get-requires-4 cast-third decode-requires returns)

@@ -7,9 +7,9 @@ use borrow.Author.Needs.{needs}
 use borrow.Author.Tests.{le-leb, lt-leb, lt-ltb, le-ltb}
 use Rattle.curve.proofs.Laws.Answers.{told-yes, told-no}
 use Rattle.tree.specs.declared.Refusal.the-variants.{StampTooFar, ClockFull}
-use Rattle.rules.specs.Limits.{end, tooFar}
+use Rattle.rules.specs.Limits.{lastTick, tooFar}
 use Rattle.rules.specs.Clock.{elapsedTicks}
-use Rattle.state.specs.declared.ticks.Moment.the-variants.{At, Refused}
+use Rattle.state.specs.declared.ticks.NextClock.the-variants.{At, Refused}
 use Rattle.state.specs.Steps.{tickOf}
 use Rattle.state.proofs.ticks.tick.Statement.{statement}
 use Rattle.state.proofs.ticks.tick.Tie as tie
@@ -24,19 +24,19 @@ module _ (clock last stamp read : ℕ) (same : read ≡ last) where
   far h = rw (le-leb tooFar (elapsedTicks stamp last) (omega (arith, ticks-are))) refl
 
   module _ (near : tooFar ≤ elapsedTicks stamp read → ⊥) (now elapsed : ℕ) (k : now ≡ clock) (e : elapsed ≡ elapsedTicks stamp read) where
-    full : end < now + elapsed → Refused ClockFull ≡ tickOf clock last stamp
+    full : lastTick < now + elapsed → Refused ClockFull ≡ tickOf clock last stamp
     unfolding tickOf
     full l =
-        rw (lt-leb tooFar (elapsedTicks stamp last) (omega (arith, ticks-are)), lt-ltb end (clock + elapsedTicks stamp last) (omega (arith, ticks-are))) refl
+        rw (lt-leb tooFar (elapsedTicks stamp last) (omega (arith, ticks-are)), lt-ltb lastTick (clock + elapsedTicks stamp last) (omega (arith, ticks-are))) refl
 
-    kept : now + elapsed ≤ end → At (now + elapsed) ≡ tickOf clock last stamp
+    kept : now + elapsed ≤ lastTick → At (now + elapsed) ≡ tickOf clock last stamp
     unfolding tickOf
     kept l =
-        rw (lt-leb tooFar (elapsedTicks stamp last) (omega (arith, ticks-are)), le-ltb end (clock + elapsedTicks stamp last) (omega (arith, ticks-are)))
+        rw (lt-leb tooFar (elapsedTicks stamp last) (omega (arith, ticks-are)), le-ltb lastTick (clock + elapsedTicks stamp last) (omega (arith, ticks-are)))
         (λ i. At (k i + (e ∙ ticks-are) i))
 
-get-requires : tie.Need-get-requires
-get-requires c κs = search needs
+header-requires : tie.Need-header-requires
+header-requires c κs = search needs
 
 cast-last : tie.Need-cast-last
 cast-last c = search needs
@@ -47,10 +47,10 @@ too-far-requires c κs = search needs
 returns : tie.Need-returns
 returns c =
     let asked = c .before in
-    far _ _ _ _ (asked .before .get .ensures) (told-yes (asked .too-far .result) (asked .too-far .ensures) (c .if1 .taken))
+    far _ _ _ _ (asked .before .header .ensures) (told-yes (asked .too-far .result) (asked .too-far .ensures) (c .if1 .taken))
 
-get-requires-2 : tie.Need-get-requires-2
-get-requires-2 c κs = search needs
+header-requires-2 : tie.Need-header-requires-2
+header-requires-2 c κs = search needs
 
 elapsed-requires : tie.Need-elapsed-requires
 elapsed-requires c κs = search needs
@@ -62,30 +62,30 @@ add-now : tie.Need-add-now
 add-now c = search needs
 
 -- fewer than 2^31 ticks have elapsed
-near-told : (c : tie.Else1) → tooFar ≤ elapsedTicks (c .before .before .before .args .stamp) (c .before .before .get .result) → ⊥
+near-told : (c : tie.Else1) → tooFar ≤ elapsedTicks (c .before .before .before .args .stamp) (c .before .before .header .result) → ⊥
 near-told c = told-no (c .before .too-far .result) (c .before .too-far .ensures) (c .if1 .left)
 
 returns-2 : tie.Need-returns-2
 returns-2 c =
     let read = c .before .before in
-    full _ _ _ _ (read .before .before .before .get .ensures) (near-told (read .before)) (read .get2 .result) (c .before .elapsed .result) (read .get2 .ensures)
+    full _ _ _ _ (read .before .before .before .header .ensures) (near-told (read .before)) (read .header2 .result) (c .before .elapsed .result) (read .header2 .ensures)
     (c .before .elapsed .ensures) (c .if2 .taken)
 
 returns-3 : tie.Need-returns-3
 returns-3 c =
     let read = c .before .before in
-    kept _ _ _ _ (read .before .before .before .get .ensures) (near-told (read .before)) (read .get2 .result) (c .before .elapsed .result) (read .get2 .ensures)
+    kept _ _ _ _ (read .before .before .before .header .ensures) (near-told (read .before)) (read .header2 .result) (c .before .elapsed .result) (read .header2 .ensures)
     (c .before .elapsed .ensures) (c .if2 .left)
 
 pub tick-spec : {M : Type 1} → statement M
 tick-spec =
     tie.close
     (tie.spec
-    get-requires
+    header-requires
     cast-last
     too-far-requires
     returns
-    get-requires-2
+    header-requires-2
     elapsed-requires
     cast-now
     add-now

@@ -8,16 +8,16 @@ use borrow.Author.Needs.{needs}
 use lib.ListN.{length, getD, length-set}
 use lib.Seq.{ext-getD, getD-set-same, getD-set-other}
 use Rattle.curve.specs.declared.Curve.the-variants.{None}
-use Rattle.tree.specs.Trees.{curveBelow, curvesOf}
+use Rattle.tree.specs.Trees.{mostClasses, curveBelow, curvesOf}
 use Rattle.tree.proofs.Curves.{curves-length, curves-at}
 use Rattle.tree.proofs.checks.curves_of.Statement.{statement}
 use Rattle.tree.proofs.checks.curves_of.Tie as tie
 
 abbrev Inv-loop : tie.InvT-loop
-Inv-loop tree curves₀ i₀ curves i = (i ≤ 64) × (length curves ≡ 64) × ((k : ℕ) → k < i → getD curves k None ≡ curveBelow tree k)
+Inv-loop tree curves₀ i₀ curves i = (i ≤ mostClasses) × (length curves ≡ mostClasses) × ((k : ℕ) → k < i → getD curves k None ≡ curveBelow tree k)
 
 abbrev μ-loop : tie.MeasureT-loop
-μ-loop tree curves₀ i₀ curves i = 64 - i
+μ-loop tree curves₀ i₀ curves i = mostClasses - i
 
 loop-holds : tie.Need-loop-holds Inv-loop μ-loop
 loop-holds c = (search needs, search needs, below-none _)
@@ -44,7 +44,7 @@ loop-again : tie.Need-loop-again Inv-loop μ-loop
 loop-again c =
     let now = c .before .before .loop in
     let v = c .curve-below .result in
-    let held : length (now .curves) ≡ 64 = now .inv .1 in (
+    let held : length (now .curves) ≡ mostClasses = now .inv .1 in (
       search needs,
       length-set (now .curves) (now .i) v ∙ held,
       below-more _ _
@@ -56,7 +56,7 @@ returns : tie.Need-returns Inv-loop μ-loop
 returns c =
     let tree = c .before .before .args .tree in
     let last = c .before .loop in
-    let held : length (last .curves) ≡ 64 = last .inv .1 in
+    let held : length (last .curves) ≡ mostClasses = last .inv .1 in
     ext-getD None (last .curves) (curvesOf tree) (held ∙ sym (curves-length tree))
     (λ k l. last .inv .2 k (omega arith) ∙ sym (curves-at tree k (omega arith)))
 

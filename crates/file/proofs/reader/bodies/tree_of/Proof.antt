@@ -4,6 +4,7 @@ use Prim.Native.Nat.{ℕ, _-_, _≤_, _<_}
 use mathlib.Core.Path.{_≡_, refl, _∙_, sym, ap, subst}
 use mathlib.Core.List.{List}
 use native.Mathlib.Omega.{arith}
+use lib.ListN.{length}
 use borrow.Author.Needs.{needs}
 use denote.Ref.{now}
 use Rattle.tree.specs.Trees.{emptyTree}
@@ -45,7 +46,7 @@ module _ (c : tie.After-next-entry Inv-loop μ-loop) where
   abbrev class : ℕ
   class = c .before .before .loop .class
 
-  abbrev opened : Opened file (c .before .before .before .before .before .args .order) (c .before .before .before .before .before .args .count)
+  abbrev opened : Opened file (length file) (c .before .before .before .before .before .args .order) (c .before .before .before .before .before .args .count)
   opened = c .before .before .before .before .before .pre .0
 
   entry : EntryIs file class (c .next-entry .result)
@@ -57,7 +58,7 @@ module _ (c : tie.After-next-entry Inv-loop μ-loop) where
 class-of-requires : tie.Need-class-of-requires Inv-loop μ-loop
 class-of-requires c κs = record {
   long = subst RightLength (sym (entry c .bytes)) (placed c .long);
-  within = omega (arith, entry c .offset, entry c .bytes, placed c .within, opened c .right .given);
+  within = omega (arith, entry c .offset, entry c .bytes, placed c .within, opened c .right .total);
 }
 
 loop-again : tie.Need-loop-again Inv-loop μ-loop

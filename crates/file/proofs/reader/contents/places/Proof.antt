@@ -31,15 +31,15 @@ abbrev μ-loop : tie.MeasureT-loop
 
 loop-holds : tie.Need-loop-holds Inv-loop μ-loop
 unfolding startOf
-loop-holds c = record { within = omega arith; entry = refl; next = ap entryAt (c .before .pre .counted); fit = λ k h. absurd (omega arith) }
+loop-holds c = record { within = omega arith; entry = refl; next = c .entry-at .ensures ∙ ap entryAt (c .before .before .pre .counted); fit = λ k h. absurd (omega arith) }
 
 next-entry-requires : tie.Need-next-entry-requires Inv-loop μ-loop
-next-entry-requires c κs = omega (arith, c .before .before .before .pre .right .contents, c .before .before .before .pre .counted)
+next-entry-requires c κs = omega (arith, c .before .before .before .before .pre .right .contents, c .before .before .before .before .pre .counted)
 
 -- what `fitting` was asked, said of the file
 module _ (c : tie.After-next-entry Inv-loop μ-loop) where
   abbrev file : List ℕ
-  file = now (c .before .before .before .before .args .file)
+  file = now (c .before .before .before .before .before .args .file)
 
   abbrev class : ℕ
   class = c .before .before .loop .class
@@ -48,10 +48,10 @@ module _ (c : tie.After-next-entry Inv-loop μ-loop) where
   Asked = Fitting (c .next-entry .result .offset) (c .next-entry .result .bytes) (c .before .before .loop .start) (length file)
 
   entry : EntryIs file class (c .next-entry .result)
-  entry = entry-is file _ _ class _ (c .before .before .before .before .pre .own) (c .before .before .loop .inv .entry) (c .next-entry .ensures)
+  entry = entry-is file _ _ class _ (c .before .before .before .before .before .pre .own) (c .before .before .loop .inv .entry) (c .next-entry .ensures)
 
   total-is : length file ≡ totalOf file
-  total-is = sym (c .before .before .before .before .pre .right .given)
+  total-is = sym (c .before .before .before .before .before .pre .right .total)
 
   asked-of : FitsAt file class → Asked
   asked-of = fitting-as (sym (entry .offset)) (sym (entry .bytes)) (sym (c .before .before .loop .inv .next)) (sym total-is)
@@ -62,7 +62,7 @@ module _ (c : tie.After-next-entry Inv-loop μ-loop) where
 returns : tie.Need-returns Inv-loop μ-loop
 returns c =
     let e = c .before .before in
-    misplaced _ _ (omega (arith, c .before .before .before .before .before .before .pre .counted)) (e .before .before .loop .inv .fit)
+    misplaced _ _ (omega (arith, c .before .before .before .before .before .before .before .pre .counted)) (e .before .before .loop .inv .fit)
     (λ f. untold-no (c .before .fitting .result) {P = Asked e} (c .before .fitting .ensures) (c .if1 .taken) (asked-of e f))
 
 loop-again : tie.Need-loop-again Inv-loop μ-loop
@@ -78,10 +78,10 @@ loop-again c =
 -- after the walk
 module _ (c : tie.After-loop Inv-loop μ-loop) where
   abbrev whole : List ℕ
-  whole = now (c .before .before .before .args .file)
+  whole = now (c .before .before .before .before .args .file)
 
   at-end : c .before .loop .class ≡ countOf whole
-  at-end = omega (arith, c .before .before .before .pre .counted)
+  at-end = omega (arith, c .before .before .before .before .pre .counted)
 
   all-fit : EveryClass (FitsAt whole) (countOf whole)
   all-fit = subst (EveryClass (FitsAt whole)) at-end (c .before .loop .inv .fit)
@@ -91,13 +91,13 @@ module _ (c : tie.After-loop Inv-loop μ-loop) where
 
 returns-2 : tie.Need-returns-2 Inv-loop μ-loop
 returns-2 c =
-    let p = c .before .before .before .before .pre in
-    wrong-end _ _ (omega (arith, p .counted, p .within .above)) (all-fit (c .before)) (λ e. c .if2 .taken (end-is (c .before) ∙ (e ∙ p .right .given)))
+    let p = c .before .before .before .before .before .pre in
+    wrong-end _ _ (omega (arith, p .counted, p .within .above)) (all-fit (c .before)) (λ e. c .if2 .taken (end-is (c .before) ∙ (e ∙ p .right .total)))
 
 returns-3 : tie.Need-returns-3 Inv-loop μ-loop
 returns-3 c =
-    let p = c .before .before .before .before .pre in
-    all-placed _ (all-fit (c .before)) (sym (end-is (c .before)) ∙ (c .if2 .left ∙ sym (p .right .given)))
+    let p = c .before .before .before .before .before .pre in
+    all-placed _ (all-fit (c .before)) (sym (end-is (c .before)) ∙ (c .if2 .left ∙ sym (p .right .total)))
 
 pub places-spec : {M : Type 1} → statement M
 places-spec =
@@ -105,8 +105,7 @@ places-spec =
     (tie.spec
     Inv-loop
     μ-loop
-    (λ c. omega arith)
-    (λ c. omega arith)
+    (λ c κs. search needs)
     loop-holds
     next-entry-requires
     (λ c κs. search needs)

@@ -1,4 +1,4 @@
--- `entry_of` takes a reader apart and calls `entry_at` on the file, the order and the place: a walk of its MIR, by hand. All that the proof knows of `entry_at` is that it meets its contract.
+-- `entry_of` takes a reader apart and calls `read_entry` on the file, the order and the place: a walk of its MIR, by hand. All that the proof knows of `read_entry` is that it meets its contract.
 -- The struct is Copy: what it owns is had twice, and one copy is kept whole for the exit. The callee takes the fields in their order, so what the fields own together is what it asks, by computation.
 -- Assumes nothing.
 use mathlib.Core.Path.{_≡_, refl}
@@ -50,10 +50,10 @@ use Rattle.file.proofs.reader.entries.Entry as R
 use Rattle.file.proofs.reader.entries.Entry.Laws as R′
 use Rattle.file.proofs.reader.entries.Reader as T
 use Rattle.file.proofs.reader.entries.Reader.Laws as T′
-use Rattle.file.proofs.reader.entries.entry_at as entry-at
-use Rattle.file.proofs.reader.entries.entry_at.Symbol as entry-at-def
-use Rattle.file.proofs.reader.entries.entry_at.Symbol.{name as #entry-at}
-use Rattle.file.proofs.reader.entries.entry_at.Met as entry-at-thm
+use Rattle.file.proofs.reader.entries.read_entry as read-entry
+use Rattle.file.proofs.reader.entries.read_entry.Symbol as read-entry-def
+use Rattle.file.proofs.reader.entries.read_entry.Symbol.{name as #read-entry}
+use Rattle.file.proofs.reader.entries.read_entry.Met as read-entry-thm
 use Rattle.file.proofs.reader.entries.entry_of.Key.{name as #entry-of}
 use Rattle.file.proofs.reader.entries.entry_of as entry-of
 use Rattle.file.proofs.reader.entries.entry_of.Statement as stated
@@ -74,8 +74,8 @@ stayed = (stay-none B yes, tt)
 
 module _ {M : Type 1} (𝓤 : URA M) (H : Heap 𝓤) (A : Atoms 𝓤) (mem : Memory → SProp 𝓤) (run : Routine → Fun 𝓤) where
   -- the contract that the proof cites
-  abbrev EntryAt : Contract 𝓤
-  EntryAt = tripleOf 𝓤 H A entry-at.signature (entry-at.spec 𝓤 H A mem run)
+  abbrev ReadEntry : Contract 𝓤
+  ReadEntry = tripleOf 𝓤 H A read-entry.signature (read-entry.spec 𝓤 H A mem run)
 
 module _ {M : Type 1} (𝓤 : URA M) (H : Heap 𝓤) (A : Atoms 𝓤) (W : Given 𝓤 H A) (mem : Memory → SProp 𝓤) (run : Routine → Fun 𝓤) (κ : Lft) (q : Share) (d : Reader) where
   abbrev κs : Lfts 1
@@ -98,27 +98,27 @@ module _ {M : Type 1} (𝓤 : URA M) (H : Heap 𝓤) (A : Atoms 𝓤) (W : Given
   Own = B κs .own d (mach ∷ [])
 
   -- what the callee is passed
-  abbrev passed : Vals entry-at.signature κs
+  abbrev passed : Vals read-entry.signature κs
   passed = (sliceVal (d .file .ptr) (length (d .file .now)) ∷ [], (w ∷ [], (vint w64 (d .place) ∷ [], tt)))
 
-  abbrev to : EntryAt 𝓤 H A mem run .Ghost
+  abbrev to : ReadEntry 𝓤 H A mem run .Ghost
   to = ((κs, (q, tt), tt, (d .file, (d .order, (d .place, tt))), passed), tt)
 
-  asked : d .place + 8 ≤ length (now (d .file)) → ent 𝓤 (onEntry 𝓤 H A entry-at.signature κs (q, tt) (d .file, (d .order, (d .place, tt))) passed) (EntryAt 𝓤 H A mem run .pre to)
+  asked : d .place + 8 ≤ length (now (d .file)) → ent 𝓤 (onEntry 𝓤 H A read-entry.signature κs (q, tt) (d .file, (d .order, (d .place, tt))) passed) (ReadEntry 𝓤 H A mem run .pre to)
   asked within = qed W ((‵ (flft κ q) ⊛ ‵ ftrue) ∷ ‵ (owns (ShrSlice (named 0) κ u8 ∷ E.the-row ∷ usize ∷ []) (d .file, (d .order, (d .place, tt))) passed) ∷ []) ∵ says ! within $ frame ! $ done !
 
   -- what the struct owns gives what the callee asks, and is kept
-  apart : d .place + 8 ≤ length (now (d .file)) → ent 𝓤 (onEntry 𝓤 H A entry-of.signature κs (q, tt) (d, tt) (mach ∷ [], tt)) (sep 𝓤 (EntryAt 𝓤 H A mem run .pre to) (sem 𝓤 H A Own))
+  apart : d .place + 8 ≤ length (now (d .file)) → ent 𝓤 (onEntry 𝓤 H A entry-of.signature κs (q, tt) (d, tt) (mach ∷ [], tt)) (sep 𝓤 (ReadEntry 𝓤 H A mem run .pre to) (sem 𝓤 H A Own))
   apart within =
       qed W ((‵ (flft κ q) ⊛ ‵ ftrue) ∷ ‵ (owns (B κs ∷ []) (d, tt) (mach ∷ [], tt)) ∷ []) ∵
       move ! (1 ∷ []) $ fsplit ! $ move ! (1 ∷ []) $ drop ! $ use1 W (‵ Own ⊛ ‵ Own) (LL.copy (D κs) (T′.the-copy (namedLft 1 0 tt κs)) 𝓤 H A W .twice d (mach ∷ [])) $ split ! $
       use1 W (given (mach ∷ [] ≡ mach ∷ []) (‵ (all-own (D κs .parts) (L κs) (d .file, (d .order, (d .place, tt)))))) (own-open 𝓤 H A W (D κs) (L κs) (d .file, (d .order, (d .place, tt))) mach) $ learn ! (λ _.
       -- [what the fields own together; what the struct owns; the token]
-      move ! (2 ∷ 0 ∷ []) $ use2 W (raw (EntryAt 𝓤 H A mem run .pre to)) (asked within) $ frame ! $ done !)
+      move ! (2 ∷ 0 ∷ []) $ use2 W (raw (ReadEntry 𝓤 H A mem run .pre to)) (asked within) $ frame ! $ done !)
 
   -- of the callee's `ensured`, the clause alone: it has no `&mut`, so what is said of last values is dropped
-  said : (r : Entry) → ent 𝓤 (ensured 𝓤 H A entry-at.ended (entry-at.clauses 𝓤 H A mem run) κs (d .file, (d .order, (d .place, tt))) tt r) (fact 𝓤 (r ≡ found))
-  said r = exE 𝓤 _ (λ ws. snd∗ 𝓤 (sem 𝓤 H A (lasts entry-at.ended κs (d .file, (d .order, (d .place, tt))) ws)) (fact 𝓤 (r ≡ found)))
+  said : (r : Entry) → ent 𝓤 (ensured 𝓤 H A read-entry.ended (read-entry.clauses 𝓤 H A mem run) κs (d .file, (d .order, (d .place, tt))) tt r) (fact 𝓤 (r ≡ found))
+  said r = exE 𝓤 _ (λ ws. snd∗ 𝓤 (sem 𝓤 H A (lasts read-entry.ended κs (d .file, (d .order, (d .place, tt))) ws)) (fact 𝓤 (r ≡ found)))
 
   exits : (r : Entry) (u : Val) → r ≡ found → ent 𝓤 (⋆ 𝓤 H A (‵ (R.the-row .own r (u ∷ [])) ∷ (‵ (flft κ q) ⊛ ‵ ftrue) ∷ ‵ Own ∷ [])) (Post u)
   exits r u e =
@@ -126,7 +126,7 @@ module _ {M : Type 1} (𝓤 : URA M) (H : Heap 𝓤) (A : Atoms 𝓤) (W : Given
       suffices ! _ (ends-at 𝓤 H A entry-of.ended stayed (entry-of.clauses 𝓤 H A mem run) W ((κs, (q, tt), tt, (d, tt), (mach ∷ [], tt)), tt) u r (tt, tt) (tt, tt)) $ says ! e $
       move ! (1 ∷ []) $ frame ! $ nothing ! $ move ! (2 ∷ 0 ∷ []) $ fjoin ! $ frame ! $ done !
 
-  module _ (C : Calls 𝓤 H) (Λ : Loops 𝓤 H) (fm : FmC 𝓤 H (W .laws) C) (known : Triple 𝓤 (C #entry-at) (EntryAt 𝓤 H A mem run)) where
+  module _ (C : Calls 𝓤 H) (Λ : Loops 𝓤 H) (fm : FmC 𝓤 H (W .laws) C) (known : Triple 𝓤 (C #read-entry) (ReadEntry 𝓤 H A mem run)) where
     walk : d .place + 8 ≤ length (now (d .file)) → Holds (hasTy (T′.mir (named 0)) mach) × WT mach → Is E.the-row (d .order) (w ∷ [])
         → ent 𝓤 (onEntry 𝓤 H A entry-of.signature κs (q, tt) (d, tt) (mach ∷ [], tt)) (WpFn 𝓤 H C Λ code.function (mach ∷ []) Post)
     walk within wt po =
@@ -135,9 +135,9 @@ module _ {M : Type 1} (𝓤 : URA M) (H : Heap 𝓤) (A : Atoms 𝓤) (W : Given
         assigns ! (of-opd ! (load ! (from ! (fld ! refl (stop !))) (look-in ! 6 (sub ! 0 refl (whole !))))) (from ! (stop !)) (init ! 4 refl (tt, wt .1 .0)) $
         assigns ! (of-opd ! (load ! (from ! (fld ! refl (stop !))) (look-in ! 6 (sub ! 1 refl (whole !))))) (from ! (stop !)) (init ! 2 refl (EL.lawful E.the-type E′.the-laws 𝓤 H A W tt .typed (d .order) _ po .0)) $
         assigns ! (of-opd ! (load ! (from ! (fld ! refl (stop !))) (look-in ! 6 (sub ! 2 refl (whole !))))) (from ! (stop !)) (init ! 0 refl (tt, wt .1 .1 .1 .0)) $
-        move ! (10 ∷ []) $ use1 W (raw (EntryAt 𝓤 H A mem run .pre to) ⊛ ‵ Own) (apart within) $ split ! $
-        calls-at ! fm (EntryAt 𝓤 H A mem run) known to (and-then ! (load ! (from ! (stop !)) (look ! 6 refl)) (and-then ! (load ! (from ! (stop !)) (look ! 4 refl)) (and-then ! (load ! (from ! (stop !)) (look ! 2 refl)) (no-more !)))) (λ u.
-        use1 W (later (some (λ (r : Entry). ((‵ (flft κ q) ⊛ ‵ ftrue) ⊛ ‵ (R.the-row .own r (u ∷ []))) ⊛ raw (ensured 𝓤 H A entry-at.ended (entry-at.clauses 𝓤 H A mem run) κs (d .file, (d .order, (d .place, tt))) tt r)))) (id⊢ 𝓤 _) $ await ! tt $ pick ! (λ r.
+        move ! (10 ∷ []) $ use1 W (raw (ReadEntry 𝓤 H A mem run .pre to) ⊛ ‵ Own) (apart within) $ split ! $
+        calls-at ! fm (ReadEntry 𝓤 H A mem run) known to (and-then ! (load ! (from ! (stop !)) (look ! 6 refl)) (and-then ! (load ! (from ! (stop !)) (look ! 4 refl)) (and-then ! (load ! (from ! (stop !)) (look ! 2 refl)) (no-more !)))) (λ u.
+        use1 W (later (some (λ (r : Entry). ((‵ (flft κ q) ⊛ ‵ ftrue) ⊛ ‵ (R.the-row .own r (u ∷ []))) ⊛ raw (ensured 𝓤 H A read-entry.ended (read-entry.clauses 𝓤 H A mem run) κs (d .file, (d .order, (d .place, tt))) tt r)))) (id⊢ 𝓤 _) $ await ! tt $ pick ! (λ r.
         split ! $ move ! (1 ∷ []) $ use1 W (raw (fact 𝓤 (r ≡ found))) (said r) $ heard ! (r ≡ found) (λ e. split ! $ move ! (1 ∷ []) $
         -- [the result; the token; what the struct owns; _4; …; _3; …; _2; …; _1; …; room for _0; …]
         peeks ! R.the-row (Is R.the-row) (shows 𝓤 H A R.the-row) r (u ∷ []) (λ is.
@@ -146,14 +146,14 @@ module _ {M : Type 1} (𝓤 : URA M) (H : Heap 𝓤) (A : Atoms 𝓤) (W : Given
         move ! (11 ∷ 12 ∷ []) $ free1 ! $ move ! (9 ∷ 10 ∷ []) $ free1 ! $ move ! (7 ∷ 8 ∷ []) $ free1 ! $ move ! (5 ∷ 6 ∷ []) $ free1 ! $ move ! (3 ∷ 4 ∷ []) $ free1 ! $ free0 ! $ by ! (exits r u e))))))))))
 
 module _ {M : Type 1} (𝓤 : URA M) (H : Heap 𝓤) (A : Atoms 𝓤) (W : Given 𝓤 H A) (mem : Memory → SProp 𝓤) (run : Routine → Fun 𝓤) where
-  walks : (C : Calls 𝓤 H) (Λ : Loops 𝓤 H) → FmC 𝓤 H (W .laws) C → Triple 𝓤 (C #entry-at) (EntryAt 𝓤 H A mem run)
+  walks : (C : Calls 𝓤 H) (Λ : Loops 𝓤 H) → FmC 𝓤 H (W .laws) C → Triple 𝓤 (C #read-entry) (ReadEntry 𝓤 H A mem run)
       → Walks 𝓤 H A entry-of.ended stayed (WpFn 𝓤 H C Λ code.function) (entry-of.clauses 𝓤 H A mem run)
   walks C Λ fm known = walked 𝓤 H A entry-of.ended stayed (entry-of.clauses 𝓤 H A mem run) (WpFn 𝓤 H C Λ code.function) (λ κs. (LL.vals (D κs) (L κs), tt)) (λ κs. (LL.tells (D κs) (L κs), tt))
       (λ κs qs bounds a g are. needs 𝓤 (a .0 .place + 8 ≤ length (now (a .0 .file))) _ (λ within.
       walk 𝓤 H A W mem run (κs .0) (qs .0) (a .0) C Λ fm known within (LL.lawful (D κs) (L κs) 𝓤 H A W .typed (a .0) _ (are .0) .0) (LL.owed (D κs) (L κs) (a .0) _ (are .0) .1 .0)))
 
 meets : {M : Type 1} (𝓤 : URA M) (H : Heap 𝓤) (A : Atoms 𝓤) (W : Given 𝓤 H A) (mem : Memory → SProp 𝓤) (run : Routine → Fun 𝓤) (𝓣 : Tables 𝓤 H)
-    → Triple 𝓤 (𝓣 .C #entry-at) (EntryAt 𝓤 H A mem run)
+    → Triple 𝓤 (𝓣 .C #read-entry) (ReadEntry 𝓤 H A mem run)
     → Meets 𝓤 H A entry-of.signature (WpFn 𝓤 H (𝓣 .C) (𝓣 .Λ) code.function) (entry-of.spec 𝓤 H A mem run)
 meets 𝓤 H A W mem run 𝓣 known =
     walk-meets 𝓤 H A entry-of.ended stayed W (goes-none 𝓤 H A W 1 B yes (λ κs x f. refl), tt) (entry-of.clauses 𝓤 H A mem run)
@@ -165,4 +165,4 @@ entry-of-spec 𝓤 H 𝓜 𝓖 𝓡 =
     entered 𝓤 H (tripleOf 𝓤 H (𝓖 .A) entry-of.signature (entry-of.spec 𝓤 H (𝓖 .A) (𝓜 .mem) (𝓡 .run)))
     (tables 𝓤 H 𝓜 𝓡 code.env .C) (tables 𝓤 H 𝓜 𝓡 code.env .Λ) #entry-of code.function (code.unfolded 𝓤 H 𝓜 𝓡)
     (meets 𝓤 H (𝓖 .A) (givenOf 𝓤 H 𝓜 𝓖) (𝓜 .mem) (𝓡 .run) (tablesOf 𝓤 H 𝓜 (tables 𝓤 H 𝓜 𝓡 code.env))
-    (cited 𝓤 H (EntryAt 𝓤 H (𝓖 .A) (𝓜 .mem) (𝓡 .run)) 𝓜 𝓡 code.env #entry-at entry-at-def.routine code.calls-file·reader·entries·entry-at (entry-at-thm.met 𝓤 H 𝓜 𝓖 𝓡)))
+    (cited 𝓤 H (ReadEntry 𝓤 H (𝓖 .A) (𝓜 .mem) (𝓡 .run)) 𝓜 𝓡 code.env #read-entry read-entry-def.routine code.calls-file·reader·entries·read-entry (read-entry-thm.met 𝓤 H 𝓜 𝓖 𝓡)))
