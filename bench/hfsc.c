@@ -161,10 +161,11 @@ static uint64_t meeting(const struct hfsc *s, const struct class *parent) {
     return parent->active ? (low + high) / 2 : high;
 }
 
+/* The class turns active, then its parent if that was passive, and so upward. */
 static void turn_active(struct hfsc *s, uint32_t class) {
     for (;;) {
         struct class *c = &s->class[class], *parent = &s->class[c->parent];
-        if (class) {
+        if (class && !c->active) {
             parent->mark = larger(parent->mark, meeting(s, parent));
             if (parent->mark >= c->fair.start + up(parts(c->sent - c->fair.sent), c->share)) {
                 c->fair.start = parent->mark;

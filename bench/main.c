@@ -44,18 +44,23 @@ static void departs(void) {
     }
 }
 
-/* All leaves beneath the last of the classes up to `above`. */
+#define WIDE 20 /* the classes above the leaves, in the tree with branches at every level */
+
+/* The classes up to `above` stand above the leaves: each is the parent of the next, and the last that of all leaves. Wide: four beneath
+   the root, four beneath each of those, and the leaves in turn beneath the sixteen. */
 static void grow(struct tree *tree, uint32_t above, uint32_t leaves) {
     uint32_t rate = 32768 / (leaves + 1), bend = 2000 * (leaves + 1);
     const struct curve curves[] = {{FRONT_LOADED, 2 * rate, bend, rate}, {DELAYED, 2 * rate, bend, 0}, {NONE, 0, 0, 0}, {STRAIGHT, rate, 0, 0}};
+    int wide = above == WIDE;
     memset(tree, 0, sizeof *tree);
     tree->count = above + 1 + leaves;
-    for (uint32_t i = 0; i <= above; i++) {
-        tree->class[i].parent = i ? i - 1 : 0;
-        tree->class[i].share = 65536;
+    tree->class[0].share = 65536;
+    for (uint32_t i = 1; i <= above; i++) {
+        tree->class[i].parent = !wide ? i - 1 : i < 5 ? 0 : 1 + (i - 5) / 4;
+        tree->class[i].share = wide ? 1024 * i : 65536;
     }
     for (uint32_t leaf = 0; leaf < leaves; leaf++) {
-        tree->class[above + 1 + leaf].parent = above;
+        tree->class[above + 1 + leaf].parent = wide ? 5 + leaf % 16 : above;
         tree->class[above + 1 + leaf].share = 1024 + 64 * leaf;
         tree->class[above + 1 + leaf].curve = curves[leaf % 4];
     }
@@ -80,12 +85,25 @@ static void refills(uint32_t above, uint32_t leaves, uint32_t pairs, int each) {
     }
 }
 
+static int offered(uint32_t above, uint32_t length) {
+    uint64_t number;
+    return hfsc_arrive(&s, stamp, above + 1, length, &number);
+}
+
+/* Packets of 9,000 bytes for the first leaf, each of which leaves before the next comes, until one is refused. 5,776 bytes are left then. */
+static void fill(uint32_t above, uint32_t pairs) {
+    const uint32_t lengths[] = {9000, 5777, 5776, 1};
+    while (pairs-- && !offered(above, 9000)) departs();
+    for (int i = 0; i < 4; i++) printf("%s%u: %d", i ? ", " : "", lengths[i], offered(above, lengths[i]));
+    printf("\n");
+}
+
 int main(int argc, char **argv) {
     if (argc != 6) {
-        fprintf(stderr, "usage: %s flat|deep LEAVES bursty|waiting|emptied CALLS SEED\n", argv[0]);
+        fprintf(stderr, "usage: %s flat|deep|wide LEAVES bursty|waiting|emptied|full CALLS SEED\n", argv[0]);
         return 2;
     }
-    uint32_t above = strcmp(argv[1], "deep") ? 0 : 7, leaves = atoi(argv[2]), pairs = atoi(argv[4]) / 2;
+    uint32_t above = !strcmp(argv[1], "deep") ? 7 : !strcmp(argv[1], "wide") ? WIDE : 0, leaves = atoi(argv[2]), pairs = atoi(argv[4]) / 2;
     struct tree tree;
     seed = atoi(argv[5]);
     if (leaves > 63 - above) return 2;
@@ -93,6 +111,7 @@ int main(int argc, char **argv) {
     if (hfsc_start(&s, &tree, 0)) return 1;
     if (!strcmp(argv[3], "waiting")) refills(above, leaves, pairs, 2);
     else if (!strcmp(argv[3], "emptied")) refills(above, leaves, pairs, 1);
+    else if (!strcmp(argv[3], "full")) fill(above, pairs);
     else bursts(above, leaves, pairs);
     printf("left %" PRIu64 " sums %" PRIu64 " %" PRIu64 "\n", left, sum, mix);
     return 0;

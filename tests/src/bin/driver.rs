@@ -4,7 +4,7 @@
 //! TREE alone. At the first difference it keeps the files, says where, and ends with status 1.
 
 use outside::calls::show_tree;
-use outside::gen::{by_hand, case, edges, sort_of_answer, texts, Case};
+use outside::gen::{by_hand, case, edges, more_by_hand, sort_of_answer, texts, Case};
 use std::collections::BTreeMap;
 use std::path::{Path, PathBuf};
 use std::process::{exit, Command};
@@ -105,7 +105,7 @@ fn main() {
     let folder = std::env::temp_dir().join(format!("driver-{}", std::process::id()));
     std::fs::create_dir_all(&folder).expect("make a temporary folder");
     let seeds = options.seed..options.seed + options.runs;
-    let told = by_hand().into_iter().chain(edges()).chain(texts());
+    let told = by_hand().into_iter().chain(more_by_hand()).chain(edges()).chain(texts());
     let (mut cases, mut seen) = (0, BTreeMap::<String, usize>::new());
     for case in told.chain(seeds.map(|seed| seeded(&options, seed))) {
         cases += 1;

@@ -9,6 +9,7 @@ use crate::calls::{replay, show_tree};
 use crate::curves::Curve;
 use crate::file::{file_of, Order};
 use crate::tree::{Class, Tree};
+use std::borrow::Borrow;
 
 /// A tree file and a file of calls, or a tree file alone, to be printed.
 pub struct Case {
@@ -93,7 +94,7 @@ fn leaf(parent: u32, share: u32, curve: Curve) -> Class {
     Class { parent, share, curve }
 }
 
-fn told(name: &str, tree: &Tree, calls: &[&str]) -> Case {
+fn told<Line: Borrow<str>>(name: &str, tree: &Tree, calls: &[Line]) -> Case {
     Case::new(name, file_of(tree, Order::Big), format!("{}\n", calls.join("\n")))
 }
 
@@ -138,6 +139,55 @@ fn marks() -> Vec<Case> {
 /// Runs told by hand.
 pub fn by_hand() -> Vec<Case> {
     rows().into_iter().chain(marks()).collect()
+}
+
+/// A leaf of the lowest rate, which sends 9,000 bytes as soon as it may, eight times, until the first 2^32 ticks are over, and once more then: its
+/// pieces are level with one another all along, and the stamp comes round.
+fn rate_past_32_bits() -> Case {
+    let tree = Tree::under_root(&[leaf(0, 1, Curve::Straight { m: 1 })]);
+    let mut calls = vec!["start 0".to_string()];
+    for turn in 0..8u64 {
+        let now = turn * 9_000 * 65_536;
+        calls.extend([format!("arrive {now} 1 9000"), format!("depart {now}")]);
+    }
+    calls.extend(["arrive 100 1 500".to_string(), "depart 100".to_string()]);
+    told("rate-past-32-bits", &tree, &calls)
+}
+
+/// Leaf 1, of the lowest share, has sent far more than leaf 2 when it turns active again, at a mark past 2^32: its first fair piece still counts.
+fn share_past_32_bits() -> Case {
+    let tree = Tree::under_root(&[leaf(0, 1, Curve::Straight { m: 65_536 }), leaf(0, 1, Curve::None)]);
+    let mut calls = vec!["start 0".to_string()];
+    calls.extend((0..10).map(|_| "arrive 0 2 9000".to_string()));
+    calls.extend((0..15).map(|_| "arrive 0 1 9000".to_string()));
+    calls.extend((0..15).map(|turn| format!("depart {}", 9_000 * turn)));
+    calls.extend((0..8).map(|_| "depart 126000".to_string()));
+    calls.push("arrive 126000 1 100".to_string());
+    calls.extend((0..4).map(|_| "depart 126001".to_string()));
+    told("share-past-32-bits", &tree, &calls)
+}
+
+/// More answers than a program can hold back in 65,536 bytes.
+fn long_answers() -> Case {
+    let mut calls = vec!["start 0".to_string()];
+    for _ in 0..800 {
+        calls.extend(["arrive 0 1 1".to_string(), "depart 0".to_string()]);
+    }
+    told("long-answers", &tree_a(), &calls)
+}
+
+/// More of them. They stand last in the corpus, so that the other cases keep their numbers.
+pub fn more_by_hand() -> Vec<Case> {
+    let thirds = Tree::under_root(&[leaf(0, 3, Curve::None), leaf(1, 1, Curve::None), leaf(1, 1, Curve::None), leaf(0, 1, Curve::None)]);
+    vec![
+        // Class 1 is active when its leaf 2 turns active again: only a class that was passive gets a new start.
+        told("ancestor-active", &thirds, &[
+            "start 0", "arrive 0 4 100", "arrive 0 2 100", "arrive 0 3 100", "depart 0", "arrive 0 4 100", "depart 0", "arrive 0 2 100", "depart 0", "depart 0",
+        ]),
+        rate_past_32_bits(),
+        share_past_32_bits(),
+        long_answers(),
+    ]
 }
 
 /// Files of calls at the edge of each rule on lines.
@@ -187,6 +237,7 @@ pub fn corpus(seed: u64) -> Vec<Case> {
     cases.push(case_of_run(dice, "full", &full));
     cases.extend(texts());
     cases.extend(trees_alone(dice));
+    cases.extend(more_by_hand());
     cases
 }
 

@@ -7,7 +7,7 @@ mod runs;
 mod text;
 mod trees;
 
-pub use cases::{by_hand, case, corpus, edges, sort_of_answer, texts, Case};
+pub use cases::{by_hand, case, corpus, edges, more_by_hand, sort_of_answer, texts, Case};
 pub use damage::damaged_file;
 pub use dice::Dice;
 pub use runs::{disciplined_run, late_run, loose_run, same_tick_run, Run};

@@ -85,7 +85,7 @@ fn edges_are_where_they_should_be() {
 #[test]
 fn marks_by_hand() {
     let classes = |name: &str| {
-        let cases = by_hand();
+        let cases: Vec<Case> = by_hand().into_iter().chain(more_by_hand()).collect();
         let case = cases.iter().find(|case| case.name == name).unwrap();
         let printed = case.printed();
         let class = |line: &str| line.strip_prefix("packet class ").and_then(|rest| rest[..1].parse::<u32>().ok());
@@ -94,4 +94,6 @@ fn marks_by_hand() {
     assert_eq!(classes("mark-half"), [2, 3, 1, 2]);
     assert_eq!(classes("mark-own"), [1, 1, 2, 2, 1]);
     assert_eq!(classes("mark-kept"), [3, 2, 3, 2, 2, 2, 2, 1, 2, 4]);
+    assert_eq!(classes("ancestor-active").last(), Some(&2));
+    assert_eq!(classes("share-past-32-bits")[23..], [2, 2, 1]);
 }
