@@ -30,7 +30,7 @@ def shown(classes, order=">"):
     for i, c in enumerate(classes):
         numbers = "".join(f" {n}" for n in c[3:])
         lines.append(f"class {i} parent {c[0]} share {c[1]} {NAMES[c[2]]}{numbers}")
-    written = f"written {len(pack(words_of(classes)))}, {'as' if order == '>' else 'not as'} the file, none beyond"
+    written = f"written {len(pack(words_of(classes)))}, as the file{'' if order == '>' else ' in the other order'}, none beyond"
     return lines + ["at 64: parent 0 share 0", written, written] + unwritten(17) + unwritten(7, len(classes) - 1)
 
 def unwritten(number, cls=0):

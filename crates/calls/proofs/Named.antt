@@ -1,44 +1,21 @@
 -- What a text says, by its words: for each way through the code.
 -- Assumes nothing.
-use Prim.Native.Nat.{ℕ, _-_}
+use Prim.Native.Nat.{ℕ}
 use native.Mathlib.Omega.{arith}
 use mathlib.Core.Path.{_≡_, refl, sym}
 use mathlib.Core.Bool.{true, false}
 use mathlib.Core.List.{List, [], _∷_}
 use mathlib.Core.Logic.{inl, inr}
-use lib.ListN.{length, take, drop, length-drop}
-use lib.Seq.{take-all}
+use lib.ListN.{length}
 use types.Run.{OneOf}
 use denote.Enum.Declared.{tagOf}
-use Rattle.calls.proofs.Operand.{the-type}
+use Rattle.wording.proofs.Operand.{the-type}
 use Rattle.calls.specs.declared.Line.the-variants.{Start, Depart, Nothing, NotACall}
-use Rattle.calls.specs.declared.Operand.{Operand}
-use Rattle.calls.specs.declared.Operand.the-variants.{Of, TooLarge, NotANumber}
-use Rattle.calls.specs.Words.{first, after, same}
-use Rattle.calls.specs.Numbers.{numberOf, isNumber}
-use Rattle.calls.specs.Lines.{startName, arriveName, departName, alone, onlyIn, callOf, arriveIn, named, wordsIn}
-
--- a part from n on, up to the end
-pub part-on : (s : List ℕ) (n : ℕ) → take (length s - n) (drop n s) ≡ drop n s
-part-on s n = take-all (length s - n) (drop n s) (omega (arith, length-drop n s))
-
--- a further word, or none
-alone-none : (more : List ℕ) (n : Operand) → length more ≡ 0 → alone more n ≡ n
-alone-none [] n h = refl
-alone-none (b ∷ s) n h = absurd (omega arith)
-
-alone-some : (more : List ℕ) (n : Operand) → (length more ≡ 0 → ⊥) → alone more n ≡ NotANumber
-alone-some [] n h = absurd (h refl)
-alone-some (b ∷ s) n h = refl
-
-module _ (text : List ℕ) where
-  pub only-more : (length (first (after text)) ≡ 0 → ⊥) → NotANumber ≡ onlyIn text
-  unfolding onlyIn
-  only-more h = sym (alone-some (first (after text)) (numberOf (first text)) h)
-
-  pub only-alone : length (first (after text)) ≡ 0 → numberOf (first text) ≡ onlyIn text
-  unfolding onlyIn
-  only-alone h = sym (alone-none (first (after text)) (numberOf (first text)) h)
+use Rattle.wording.specs.declared.Operand.{Operand}
+use Rattle.wording.specs.declared.Operand.the-variants.{Of, TooLarge, NotANumber}
+use Rattle.wording.specs.Words.{first, after, same}
+use Rattle.wording.specs.Numbers.{isNumber, onlyIn}
+use Rattle.calls.specs.Lines.{startName, arriveName, departName, callOf, arriveIn, named, callIn}
 
 -- a number that is not one of 32 bits is past them
 pub past-bits : (n : Operand) → isNumber n ≡ true → OneOf (1 ∷ 2 ∷ []) (tagOf the-type n) → n ≡ TooLarge
@@ -83,25 +60,25 @@ module _ (name rest : List ℕ) (some : length name ≡ 0 → ⊥) where
       by (b ∷ s) h e f g = rw (e, f, g)
 
 module _ (text : List ℕ) where
-  pub words-none : length (first text) ≡ 0 → Nothing ≡ wordsIn text
-  unfolding wordsIn
-  words-none h = sym (named-none (first text) (after text) h)
+  pub call-none : length (first text) ≡ 0 → Nothing ≡ callIn text
+  unfolding callIn
+  call-none h = sym (named-none (first text) (after text) h)
 
   module _ (some : length (first text) ≡ 0 → ⊥) where
-    pub words-start : same (first text) startName ≡ true → callOf Start (onlyIn (after text)) ≡ wordsIn text
-    unfolding wordsIn
-    words-start e = sym (named-start (first text) (after text) some e)
+    pub call-start : same (first text) startName ≡ true → callOf Start (onlyIn (after text)) ≡ callIn text
+    unfolding callIn
+    call-start e = sym (named-start (first text) (after text) some e)
 
-    pub words-arrive : same (first text) startName ≡ false → same (first text) arriveName ≡ true → arriveIn (after text) ≡ wordsIn text
-    unfolding wordsIn
-    words-arrive e f = sym (named-arrive (first text) (after text) some e f)
+    pub call-arrive : same (first text) startName ≡ false → same (first text) arriveName ≡ true → arriveIn (after text) ≡ callIn text
+    unfolding callIn
+    call-arrive e f = sym (named-arrive (first text) (after text) some e f)
 
-    pub words-depart : same (first text) startName ≡ false → same (first text) arriveName ≡ false → same (first text) departName ≡ true
-        → callOf Depart (onlyIn (after text)) ≡ wordsIn text
-    unfolding wordsIn
-    words-depart e f g = sym (named-depart (first text) (after text) some e f g)
+    pub call-depart : same (first text) startName ≡ false → same (first text) arriveName ≡ false → same (first text) departName ≡ true
+        → callOf Depart (onlyIn (after text)) ≡ callIn text
+    unfolding callIn
+    call-depart e f g = sym (named-depart (first text) (after text) some e f g)
 
-    pub words-other : same (first text) startName ≡ false → same (first text) arriveName ≡ false → same (first text) departName ≡ false
-        → NotACall ≡ wordsIn text
-    unfolding wordsIn
-    words-other e f g = sym (named-other (first text) (after text) some e f g)
+    pub call-other : same (first text) startName ≡ false → same (first text) arriveName ≡ false → same (first text) departName ≡ false
+        → NotACall ≡ callIn text
+    unfolding callIn
+    call-other e f g = sym (named-other (first text) (after text) some e f g)

@@ -10,14 +10,14 @@
  * - no other thread uses the arrays during a call.
  *
  * One tick is the time the link takes for one byte. A stamp is a 32-bit counter of ticks that comes round to zero; a start takes the first one.
- * start, arrive and depart answer 0, or the number of the refusal:
- *    1 file under 16 bytes                    7 a class's parent, share, kind or numbers  12 length outside 1 to 9,000
- *    2 no mark at the file's start            8 depth over 8                              13 64 already wait in that leaf
- *    3 version is not 1                       9 real-time curve on a class with children  14 2^31 ticks or more since the last kept stamp
- *    4 count outside 2 to 64                 10 the real-time curves don't fit the link   15 clock would pass 2^40
- *    5 total or contents                     11 no such class, or not a leaf              16 accepted bytes would pass 2^40
- *    6 a body's place or length
- * A refused start gives a state of no classes. A refused arrival or departure changes neither array.
+ * start, write, arrive and depart answer 0, or the number of the refusal:
+ *    1 file under 16 bytes                    7 a class's parent, share, kind or numbers  13 64 already wait in that leaf
+ *    2 no mark at the file's start            8 depth over 8                              14 2^31 ticks or more since the last kept stamp
+ *    3 version is not 1                       9 real-time curve on a class with children  15 clock would pass 2^40
+ *    4 count outside 2 to 64                 10 the real-time curves don't fit the link   16 accepted bytes would pass 2^40
+ *    5 total or contents                     11 no such class, or not a leaf              17 the buffer is too small for the file
+ *    6 a body's place or length              12 length outside 1 to 9,000
+ * A refused start gives a state of no classes. A refused arrival or departure changes neither array, a refused write no byte of `out`.
  */
 #ifndef HFSC_H
 #define HFSC_H
@@ -29,7 +29,8 @@
 extern "C" {
 #endif
 
-enum { HFSC_WORDS = 1536, HFSC_LENGTHS = 4096 };
+/* The state's two arrays, and the bytes of the longest right class-tree file. */
+enum { HFSC_WORDS = 1536, HFSC_LENGTHS = 4096, HFSC_FILE = 2052 };
 
 /* Starts from a class-tree file of so many bytes. On a refusal `fault` is the class that it names, else 0. */
 uint32_t hfsc_start_file(uint64_t words[HFSC_WORDS], uint16_t lengths[HFSC_LENGTHS], const uint8_t *file, size_t bytes, uint32_t stamp,
@@ -40,6 +41,12 @@ uint32_t hfsc_start_file(uint64_t words[HFSC_WORDS], uint16_t lengths[HFSC_LENGT
  * The words marked - are not looked at, nor are words past the last class. A word that is not there counts as 0. */
 uint32_t hfsc_start_words(uint64_t words[HFSC_WORDS], uint16_t lengths[HFSC_LENGTHS], const uint32_t *tree, size_t count, uint32_t stamp,
                           uint32_t *fault);
+
+/* Writes the class-tree file of a tree of so many words, as hfsc_start_words takes them, to the front of `out`, which has room for so many
+ * bytes. It asks for no state. On 0 the file is the first `total` bytes of `out`, the bytes after them are as they were, and `fault` is 0;
+ * hfsc_start_file takes the file. On a refusal `total` is 0, `fault` is the class that it names, else 0, and all of `out` is as it was.
+ * The refusals are 4, 7 to 10, and after them 17: `out` is too small. HFSC_FILE bytes of room are enough for every tree. */
+uint32_t hfsc_write(const uint32_t *tree, size_t count, uint8_t *out, size_t bytes, uint32_t *total, uint32_t *fault);
 
 /* A packet of this length in bytes arrives for a leaf. `number` is then its number within the leaf, from 0; 0 on a refusal. */
 uint32_t hfsc_arrive(uint64_t words[HFSC_WORDS], uint16_t lengths[HFSC_LENGTHS], uint32_t stamp, uint32_t leaf, uint32_t length,

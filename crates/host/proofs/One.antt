@@ -5,7 +5,9 @@ use mathlib.Core.Path.{_≡_, sym, ap, subst, _∙_}
 use mathlib.Core.List.{List}
 use Rattle.tree.specs.declared.Tree.{Tree}
 use Rattle.file.specs.declared.Reading.{Reading}
+use Rattle.file.specs.declared.writer.Written.{Written}
 use Rattle.file.proofs.ReadOne.{read-one}
+use Rattle.file.proofs.WriteOne.{write-one}
 use Rattle.rules.specs.declared.Arrival.{Arrival}
 use Rattle.rules.specs.declared.Arrival.the-variants.{Accepted}
 use Rattle.rules.specs.declared.Departure.{Departure}
@@ -18,9 +20,9 @@ use Rattle.state.specs.Heads.{EveryHistory}
 use Rattle.sched.specs.Promises.{ArriveRight, DepartRight}
 use Rattle.sched.proofs.One.{start-one, arrive-one, depart-one, arrive-refused, depart-refused}
 use Rattle.sched.proofs.Asking.{head-times-one}
-use Rattle.host.specs.Numbers.{verdictNumber, verdictClass, arrivalNumber, packetNumber, timesNumbers, departureNumber, departureNumbers}
+use Rattle.host.specs.Numbers.{verdictNumber, verdictClass, writtenVerdict, writtenTotal, arrivalNumber, packetNumber, timesNumbers, departureNumber, departureNumbers}
 use Rattle.host.specs.Words.{treeSaid}
-use Rattle.host.specs.Promises.{StartTold, StartFileTold, ArriveTold, DepartTold, HeadTold, ArriveToldRefused, DepartToldRefused}
+use Rattle.host.specs.Promises.{StartTold, StartFileTold, WriteTold, ArriveTold, DepartTold, HeadTold, ArriveToldRefused, DepartToldRefused}
 
 -- two values, each the number of one of two answers that are equal
 alike : {A B : Type 0} {x y : B} {a b : A} (f : A → B) → a ≡ b → x ≡ f a → y ≡ f b → x ≡ y
@@ -46,6 +48,17 @@ start-file-one file stamp said said′ fault fault′ m m′ l l′ p q =
       alike (λ (x : Reading). verdictClass (x .verdict)) one (p .class) (q .class),
       both .0,
       both .1,
+    )
+
+pub write-told-one : (words old : List ℕ) (said said′ total total′ fault fault′ : ℕ) (new new′ : List ℕ)
+    → WriteTold (treeSaid words) old said total fault new → WriteTold (treeSaid words) old said′ total′ fault′ new′
+    → (said ≡ said′) × (total ≡ total′) × (fault ≡ fault′) × (new ≡ new′)
+write-told-one words old said said′ total total′ fault fault′ new new′ p q =
+    let one = write-one (treeSaid words) old (p .answer) (q .answer) new new′ (p .writes) (q .writes) in (
+      alike (λ (a : Written). verdictNumber (writtenVerdict a)) (one .0) (p .number) (q .number),
+      alike writtenTotal (one .0) (p .bytes) (q .bytes),
+      alike (λ (a : Written). verdictClass (writtenVerdict a)) (one .0) (p .class) (q .class),
+      one .1,
     )
 
 module _ (m₀ l₀ : List ℕ) (reached : Reached m₀ l₀) where

@@ -11,6 +11,7 @@ use Rattle.tree.specs.declared.Refusal.the-variants.{ShortFile, NoMark, OtherVe
 use Rattle.tree.specs.declared.Verdict.{Verdict}
 use Rattle.tree.specs.declared.Verdict.the-variants.{Right}
 use Rattle.tree.proofs.Numbers.{refusal-by-number}
+use Rattle.file.specs.declared.writer.Written.{Written}
 use Rattle.rules.specs.declared.Rule.{Rule}
 use Rattle.rules.specs.declared.Rule.the-variants.{RealTime, Fair}
 use Rattle.rules.specs.declared.Times.{Times}
@@ -20,10 +21,10 @@ use Rattle.rules.specs.declared.Arrival.{Arrival}
 use Rattle.rules.specs.declared.Arrival.the-variants.{Accepted}
 use Rattle.rules.specs.declared.Departure.{Departure}
 use Rattle.rules.specs.declared.Departure.the-variants.{Leaves, NoneWaits}
-use Rattle.host.specs.Numbers.{verdictNumber, verdictClass, arrivalNumber, packetNumber, ruleNumber, timesNumbers, packetNumbers, departureNumber, departureNumbers}
+use Rattle.host.specs.Numbers.{verdictNumber, verdictClass, writtenVerdict, writtenTotal, arrivalNumber, packetNumber, ruleNumber, timesNumbers, packetNumbers, departureNumber, departureNumbers}
 
 -- no refusal has the number 0
-number-some : (why : Refusal) → 0 < numberOf why
+pub number-some : (why : Refusal) → 0 < numberOf why
 number-some ShortFile = omega arith
 number-some NoMark = omega arith
 number-some OtherVersion = omega arith
@@ -47,6 +48,18 @@ verdict-told Right Right e f = refl
 verdict-told Right (Verdict.Refused why class) e f = absurd (omega (arith, number-some why))
 verdict-told (Verdict.Refused why class) Right e f = absurd (omega (arith, number-some why))
 verdict-told (Verdict.Refused why class) (Verdict.Refused why′ class′) e f = ap₂ Verdict.Refused (refusal-by-number why why′ e) f
+
+written-by-verdict : (a b : Written) → writtenVerdict a ≡ writtenVerdict b → writtenTotal a ≡ writtenTotal b → a ≡ b
+written-by-verdict (Written.Bytes total) (Written.Bytes total′) e f = ap Written.Bytes f
+written-by-verdict (Written.Bytes total) (Written.Refused why class) e f = absurd (let z = ap verdictNumber e in omega (arith, number-some why))
+written-by-verdict (Written.Refused why class) (Written.Bytes total) e f = absurd (let z = ap verdictNumber e in omega (arith, number-some why))
+written-by-verdict (Written.Refused why class) (Written.Refused why′ class′) e f =
+    ap₂ Written.Refused (refusal-by-number why why′ (ap verdictNumber e)) (ap verdictClass e)
+
+pub written-told : (a b : Written)
+    → verdictNumber (writtenVerdict a) ≡ verdictNumber (writtenVerdict b) → verdictClass (writtenVerdict a) ≡ verdictClass (writtenVerdict b)
+    → writtenTotal a ≡ writtenTotal b → a ≡ b
+written-told a b e f = written-by-verdict a b (verdict-told (writtenVerdict a) (writtenVerdict b) e f)
 
 pub arrival-told : (a b : Arrival) → arrivalNumber a ≡ arrivalNumber b → packetNumber a ≡ packetNumber b → a ≡ b
 arrival-told (Accepted number) (Accepted number′) e f = ap Accepted f

@@ -6,6 +6,7 @@ use mathlib.Core.List.{List, [], _∷_}
 use Rattle.tree.specs.Numbers.{numberOf}
 use Rattle.tree.specs.declared.Verdict.{Verdict}
 use Rattle.tree.specs.declared.Verdict.the-variants.{Right}
+use Rattle.file.specs.declared.writer.Written.{Written}
 use Rattle.rules.specs.declared.Rule.{Rule}
 use Rattle.rules.specs.declared.Rule.the-variants.{RealTime, Fair}
 use Rattle.rules.specs.declared.Times.{Times}
@@ -24,6 +25,15 @@ verdictNumber (Verdict.Refused why class) = numberOf why
 abbrev pub verdictClass : Verdict → ℕ
 verdictClass Right = 0
 verdictClass (Verdict.Refused why class) = class
+
+-- of a tree that is written as a file: the verdict, which is told as above, and the total bytes
+abbrev pub writtenVerdict : Written → Verdict
+writtenVerdict (Written.Bytes total) = Right
+writtenVerdict (Written.Refused why class) = Verdict.Refused why class
+
+abbrev pub writtenTotal : Written → ℕ
+writtenTotal (Written.Bytes total) = total
+writtenTotal (Written.Refused why class) = 0
 
 -- of an arrival: the number of the refusal, and the packet's number within its leaf
 abbrev pub arrivalNumber : Arrival → ℕ

@@ -7,6 +7,8 @@ use crate::numbers::packet_number;
 use crate::numbers::times_numbers;
 use crate::numbers::verdict_class;
 use crate::numbers::verdict_number;
+use crate::numbers::written_total;
+use crate::numbers::written_verdict;
 use crate::words::tree_of;
 use state::table::Lengths;
 use state::table::Words;
@@ -18,7 +20,7 @@ ghost use Rattle.rules.specs.Fair.{virtualTimeOf};
 ghost use Rattle.state.specs.State.{Reached};
 ghost use Rattle.state.specs.Heads.{EveryHistory};
 ghost use Rattle.host.specs.Words.{treeSaid};
-ghost use Rattle.host.specs.Promises.{StartTold, StartFileTold, ArriveTold, DepartTold, HeadTold};
+ghost use Rattle.host.specs.Promises.{StartTold, StartFileTold, WriteTold, ArriveTold, DepartTold, HeadTold};
 
 mod numbers;
 mod words;
@@ -57,6 +59,19 @@ pub extern "C" fn hfsc_start_file(
     let tree = reading.tree;
     let verdict = reading.verdict;
     sched::start(tree, stamp, words, lengths);
+    *fault = verdict_class(verdict);
+    verdict_number(verdict)
+}
+
+// The file of a tree of words, written to the start of `out`: 0, with its bytes counted in `total`; or the number of the refusal, with
+// the class at fault in `fault`.
+#[no_mangle]
+pub extern "C" fn hfsc_write(tree: &[u32], out: &mut [u8], total: &mut u32, fault: &mut u32) -> u32
+    ensures { λ r. ⌜ WriteTold (treeSaid (now (tree .entry))) (now (out .entry)) r (now (total .exit)) (now (fault .exit)) (now (out .exit)) ⌝ }
+{
+    let answer = file::writer::write(tree_of(tree), out);
+    let verdict = written_verdict(answer);
+    *total = written_total(answer);
     *fault = verdict_class(verdict);
     verdict_number(verdict)
 }

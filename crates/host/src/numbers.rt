@@ -1,4 +1,5 @@
 // The scheduler's answers as numbers: 0 where nothing is refused, and 0 wherever there is nothing to say.
+use file::writer::Written;
 use rules::Arrival;
 use rules::Departure;
 use rules::Packet;
@@ -23,6 +24,25 @@ pub(crate) fn verdict_class(verdict: Verdict) -> u32
     match verdict {
         Verdict::Right => 0,
         Verdict::Refused { why: _, class } => class,
+    }
+}
+
+// The verdict on a tree that is written.
+pub(crate) fn written_verdict(answer: Written) -> Verdict
+    ensures { λ r. ⌜ r ≡ n.writtenVerdict answer ⌝ }
+{
+    match answer {
+        Written::Bytes(_) => Verdict::Right,
+        Written::Refused { why, class } => Verdict::Refused { why, class },
+    }
+}
+
+pub(crate) fn written_total(answer: Written) -> u32
+    ensures { λ r. ⌜ r ≡ n.writtenTotal answer ⌝ }
+{
+    match answer {
+        Written::Bytes(total) => total,
+        Written::Refused { why: _, class: _ } => 0,
     }
 }
 

@@ -1,214 +1,206 @@
 // Replays one line of a calls file.
-ghost use Prim.Native.Nat.{_<_};
 ghost use mathlib.Core.Path.{_≡_};
-ghost use lib.ListN.{length};
+ghost use Prim.Native.Nat.{_≤_};
 ghost use Rattle.state.specs.State.{Reached};
-use crate::answers;
+ghost use Rattle.print.specs.Promises.{Within, lineRoom};
+ghost use Rattle.replay.specs.Replies.{StartReplied, ArriveReplied, DepartReplied, FirstReplied, LaterReplied, Replied, Told, Replayed, beforeLines};
 use calls::Line;
+use print::Answer;
+use print::LINE;
+use print::Wrong;
+use rules::Departure;
 use state::table::Lengths;
 use state::table::Words;
 use tree::Tree;
 
+// What a line is replied with: nothing, the answer of its call, or what is wrong with it, which ends the replay.
+pub enum Reply {
+    Silent,
+    Says { answer: Answer },
+    Stops { wrong: Wrong },
+}
+
 // How far a replay has come.
 pub struct Progress {
-    // the number of the line
-    pub line: u64,
-    // the printed bytes that wait to be written
-    pub used: usize,
+    // the lines so far
+    pub lines: u64,
+    // the bytes that the last of them is replied with
+    pub printed: usize,
     pub is_started: bool,
     pub is_going: bool,
 }
 
 // Before the first line.
 pub fn before() -> Progress
-    ensures { λ r. ⌜ r .used ≡ 0 ⌝ }
+    ensures { λ r. ⌜ r ≡ beforeLines ⌝ }
 {
     Progress {
-        line: 0,
-        used: 0,
+        lines: 0,
+        printed: 0,
         is_started: false,
         is_going: true,
     }
 }
 
-// At the next line. No file has 2^64 of them.
-pub fn counted(run: Progress) -> Progress
-    ensures { λ r. ⌜ r .used ≡ run .used ⌝ }
-{
-    let mut next = run;
-    next.line = std::num::wrapping_add_u64(run.line, 1);
-    next
-}
-
-// After what was printed is written.
-pub fn flushed(run: Progress, is_going: bool) -> Progress
-    ensures { λ r. ⌜ r .used ≡ 0 ⌝ }
-{
-    let mut next = run;
-    next.used = 0;
-    next.is_going = is_going;
-    next
-}
-
-// With so many printed bytes that wait.
-fn printed(run: Progress, used: usize) -> Progress
-    ensures { λ r. ⌜ r .used ≡ used ⌝ }
-{
-    let mut next = run;
-    next.used = used;
-    next
-}
-
-// After `start`.
-fn started(run: Progress, used: usize) -> Progress
-    ensures { λ r. ⌜ r .used ≡ used ⌝ }
-{
-    let mut next = run;
-    next.used = used;
-    next.is_started = true;
-    next
-}
-
-// Replays the next line, which is lent without its end.
+// Replays the next line, which is lent without its end, and puts its reply into `out`.
 pub fn replay(
     tree: Tree,
     words: &mut Words,
     lengths: &mut Lengths,
-    out: &mut [u8],
     line: &[u8],
+    out: &mut [u8; LINE],
     run: Progress,
 ) -> Progress
     requires { ⌜ Reached (now words) (now lengths) ⌝ }
-    requires { ⌜ run .used < length (now out) ⌝ }
-    ensures { λ r. ⌜ Reached (now (words .exit)) (now (lengths .exit)) ⌝ }
-    ensures { λ r. ⌜ r .used < length (now (out .exit)) ⌝ }
+    ensures right { λ r. ⌜ Replayed tree (now (words .entry)) (now (lengths .entry)) (now (line .entry)) run (now (out .entry)) (now (words .exit)) (now (lengths .exit)) (now (out .exit)) r ⌝ }
+    ensures reached { λ r. ⌜ Reached (now (words .exit)) (now (lengths .exit)) ⌝ }
+    ensures within { λ r. ⌜ Within (r .printed) (now (out .exit)) × (r .printed ≤ lineRoom) ⌝ }
 {
-    let next = counted(run);
-    if next.is_started {
-        return later(words, lengths, out, line, next);
-    }
-    first(tree, words, lengths, out, line, next)
+    let reply = replied(tree, words, lengths, calls::parse(line), run.is_started);
+    told(reply, out, run)
 }
 
-// A line before which no call was replayed: `start`.
-fn first(
+fn replied(
     tree: Tree,
     words: &mut Words,
     lengths: &mut Lengths,
-    out: &mut [u8],
-    line: &[u8],
-    run: Progress,
-) -> Progress
+    call: Line,
+    is_started: bool,
+) -> Reply
     requires { ⌜ Reached (now words) (now lengths) ⌝ }
-    requires { ⌜ run .used < length (now out) ⌝ }
-    ensures { λ r. ⌜ Reached (now (words .exit)) (now (lengths .exit)) ⌝ }
-    ensures { λ r. ⌜ r .used < length (now (out .exit)) ⌝ }
+    ensures right { λ r. ⌜ Replied tree «is_started» (now (words .entry)) (now (lengths .entry)) call r (now (words .exit)) (now (lengths .exit)) ⌝ }
+    ensures reached { λ r. ⌜ Reached (now (words .exit)) (now (lengths .exit)) ⌝ }
 {
-    let call = calls::parse(line);
-    let Line::Start { stamp } = call else {
-        return other(out, call, run);
-    };
-    let at = start(tree, stamp, words, lengths, out, run.used);
-    started(run, at)
+    if is_started {
+        return later(words, lengths, call);
+    }
+    first(tree, words, lengths, call)
+}
+
+// A line before which no call was replayed: `start` comes first.
+fn first(tree: Tree, words: &mut Words, lengths: &mut Lengths, call: Line) -> Reply
+    requires { ⌜ Reached (now words) (now lengths) ⌝ }
+    ensures right { λ r. ⌜ FirstReplied tree (now (words .entry)) (now (lengths .entry)) call r (now (words .exit)) (now (lengths .exit)) ⌝ }
+    ensures reached { λ r. ⌜ Reached (now (words .exit)) (now (lengths .exit)) ⌝ }
+{
+    match call {
+        Line::Start { stamp } => start(tree, words, lengths, stamp),
+        Line::Arrive {
+            stamp,
+            class,
+            length,
+        } => stops(Wrong::StartFirst),
+        Line::Depart { stamp } => stops(Wrong::StartFirst),
+        Line::Nothing => Reply::Silent,
+        Line::TooLarge => stops(Wrong::TooLarge),
+        Line::NotACall => stops(Wrong::NotACall),
+    }
 }
 
 // A line after `start`.
-fn later(
-    words: &mut Words,
-    lengths: &mut Lengths,
-    out: &mut [u8],
-    line: &[u8],
-    run: Progress,
-) -> Progress
+fn later(words: &mut Words, lengths: &mut Lengths, call: Line) -> Reply
     requires { ⌜ Reached (now words) (now lengths) ⌝ }
-    requires { ⌜ run .used < length (now out) ⌝ }
-    ensures { λ r. ⌜ Reached (now (words .exit)) (now (lengths .exit)) ⌝ }
-    ensures { λ r. ⌜ r .used < length (now (out .exit)) ⌝ }
+    ensures right { λ r. ⌜ LaterReplied (now (words .entry)) (now (lengths .entry)) call r (now (words .exit)) (now (lengths .exit)) ⌝ }
+    ensures reached { λ r. ⌜ Reached (now (words .exit)) (now (lengths .exit)) ⌝ }
 {
-    let call = calls::parse(line);
     match call {
         Line::Arrive {
             stamp,
             class,
             length,
-        } => printed(
-            run,
-            arrive(words, lengths, stamp, class, length, out, run.used),
-        ),
-        Line::Depart { stamp } => printed(run, depart(words, lengths, stamp, out, run.used)),
-        _ => other(out, call, run),
+        } => arrive(words, lengths, stamp, class, length),
+        Line::Depart { stamp } => depart(words, lengths, stamp),
+        Line::Start { stamp } => stops(Wrong::StartedAlready),
+        Line::Nothing => Reply::Silent,
+        Line::TooLarge => stops(Wrong::TooLarge),
+        Line::NotACall => stops(Wrong::NotACall),
     }
 }
 
-// The three calls, each with its answer printed.
-fn start(
-    tree: Tree,
-    stamp: u32,
-    words: &mut Words,
-    lengths: &mut Lengths,
-    out: &mut [u8],
-    used: usize,
-) -> usize
-    requires { ⌜ used < length (now out) ⌝ }
-    ensures { λ r. ⌜ Reached (now (words .exit)) (now (lengths .exit)) ⌝ }
-    ensures { λ r. ⌜ r < length (now (out .exit)) ⌝ }
+// The three calls, each replied with its answer.
+fn start(tree: Tree, words: &mut Words, lengths: &mut Lengths, stamp: u32) -> Reply
+    ensures right { λ r. ⌜ StartReplied tree stamp r (now (words .exit)) (now (lengths .exit)) ⌝ }
+    ensures reached { λ r. ⌜ Reached (now (words .exit)) (now (lengths .exit)) ⌝ }
 {
-    let answer = sched::start(tree, stamp, words, lengths);
-    answers::verdict(out, used, answer, tree.count)
+    let verdict = sched::start(tree, stamp, words, lengths);
+    says(print::start(verdict, tree.count))
 }
 
-fn arrive(
-    words: &mut Words,
-    lengths: &mut Lengths,
-    stamp: u32,
-    class: u32,
-    bytes: u32,
-    out: &mut [u8],
-    used: usize,
-) -> usize
+fn arrive(words: &mut Words, lengths: &mut Lengths, stamp: u32, class: u32, bytes: u32) -> Reply
     requires { ⌜ Reached (now words) (now lengths) ⌝ }
-    requires { ⌜ used < length (now out) ⌝ }
-    ensures { λ r. ⌜ Reached (now (words .exit)) (now (lengths .exit)) ⌝ }
-    ensures { λ r. ⌜ r < length (now (out .exit)) ⌝ }
+    ensures right { λ r. ⌜ ArriveReplied (now (words .entry)) (now (lengths .entry)) stamp class bytes r (now (words .exit)) (now (lengths .exit)) ⌝ }
+    ensures reached { λ r. ⌜ Reached (now (words .exit)) (now (lengths .exit)) ⌝ }
 {
-    let answer = sched::arrive(words, lengths, stamp, class, bytes);
-    answers::arrival(out, used, answer)
+    let arrival = sched::arrive(words, lengths, stamp, class, bytes);
+    says(print::arrival(arrival))
 }
 
-fn depart(
-    words: &mut Words,
-    lengths: &mut Lengths,
-    stamp: u32,
-    out: &mut [u8],
-    used: usize,
-) -> usize
+fn depart(words: &mut Words, lengths: &mut Lengths, stamp: u32) -> Reply
     requires { ⌜ Reached (now words) (now lengths) ⌝ }
-    requires { ⌜ used < length (now out) ⌝ }
-    ensures { λ r. ⌜ Reached (now (words .exit)) (now (lengths .exit)) ⌝ }
-    ensures { λ r. ⌜ r < length (now (out .exit)) ⌝ }
+    ensures right { λ r. ⌜ DepartReplied (now (words .entry)) (now (lengths .entry)) stamp r (now (words .exit)) (now (lengths .exit)) ⌝ }
+    ensures reached { λ r. ⌜ Reached (now (words .exit)) (now (lengths .exit)) ⌝ }
 {
-    let answer = sched::depart(words, lengths, stamp);
-    answers::departure(out, used, answer)
+    let departure = sched::depart(words, lengths, stamp);
+    let Departure::Leaves { packet } = departure else {
+        return says(print::departure(departure));
+    };
+    says(Answer::Leaves { packet })
 }
 
-// A line that makes no call here: one that says nothing is passed over, and any other ends the replay.
-fn other(out: &mut [u8], call: Line, run: Progress) -> Progress
-    requires { ⌜ run .used < length (now out) ⌝ }
-    ensures { λ r. ⌜ r .used < length (now (out .exit)) ⌝ }
+fn says(answer: Answer) -> Reply
+    ensures { λ r. ⌜ r ≡ Reply.Says answer ⌝ }
 {
-    match call {
-        Line::Nothing => run,
-        Line::TooLarge => faulty(out, run, b"number past 32 bits"),
-        _ => faulty(out, run, b"not a call"),
+    Reply::Says { answer }
+}
+
+fn stops(wrong: Wrong) -> Reply
+    ensures { λ r. ⌜ r ≡ Reply.Stops wrong ⌝ }
+{
+    Reply::Stops { wrong }
+}
+
+// Prints a reply. No file has 2^64 lines.
+fn told(reply: Reply, out: &mut [u8; LINE], run: Progress) -> Progress
+    ensures told { λ r. ⌜ Told reply run (now (out .entry)) (now (out .exit)) r ⌝ }
+    ensures within { λ r. ⌜ Within (r .printed) (now (out .exit)) × (r .printed ≤ lineRoom) ⌝ }
+{
+    let lines = std::num::wrapping_add_u64(run.lines, 1);
+    match reply {
+        Reply::Silent => Progress {
+            lines,
+            printed: 0,
+            is_started: run.is_started,
+            is_going: run.is_going,
+        },
+        Reply::Says { answer } => {
+            let printed = print::line(answer, out);
+            Progress {
+                lines,
+                printed,
+                is_started: true,
+                is_going: run.is_going,
+            }
+        }
+        Reply::Stops { wrong } => {
+            let fault = Answer::Faulty {
+                number: lines,
+                wrong,
+            };
+            let printed = print::line(fault, out);
+            Progress {
+                lines,
+                printed,
+                is_started: run.is_started,
+                is_going: false,
+            }
+        }
     }
 }
 
-// Names the line and what is wrong with it, and ends the replay.
-pub fn faulty(out: &mut [u8], run: Progress, wrong: &[u8]) -> Progress
-    requires { ⌜ run .used < length (now out) ⌝ }
-    ensures { λ r. ⌜ r .used < length (now (out .exit)) ⌝ }
+// A line that the program's memory does not hold: it is not a call, whatever is in it.
+pub fn overlong(out: &mut [u8; LINE], run: Progress) -> Progress
+    ensures told { λ r. ⌜ Told (Reply.Stops Wrong.NotACall) run (now (out .entry)) (now (out .exit)) r ⌝ }
+    ensures within { λ r. ⌜ Within (r .printed) (now (out .exit)) × (r .printed ≤ lineRoom) ⌝ }
 {
-    let mut next = printed(run, answers::fault(out, run.used, run.line, wrong));
-    next.is_going = false;
-    next
+    told(stops(Wrong::NotACall), out, run)
 }

@@ -1,105 +1,78 @@
 // Replays a file of calls over a class-tree file, and prints the answers, as docs/FORMS.md sets down.
-mod answers;
 mod lines;
 mod output;
 mod turns;
 
-use show::text;
+use console::Status;
+use print::Answer;
 use tree::Tree;
 use tree::Verdict;
 
 fn main() {
+    console::end(run());
+}
+
+fn run() -> Status {
     match os::arg_count() {
         2 => tree_argument(false),
         3 => tree_argument(true),
-        _ => usage(),
+        _ => console::usage(b"usage: replay TREE [CALLS]\n"),
     }
 }
 
-fn usage() {
-    text(
-        b"usage: replay TREE CALLS    replays the calls of the file CALLS over the class-tree file TREE\n",
-    );
-    text(b"       replay TREE          prints the tree of the class-tree file TREE\n");
-}
-
 // The first argument, which names a class-tree file.
-fn tree_argument(has_calls: bool) {
+fn tree_argument(has_calls: bool) -> Status {
     let mut name = io::buffer();
     let n = os::arg(1, &mut name);
     if os::errno() != 0 {
         os::fail(b"TREE");
-        return;
+        return Status::Failed;
     }
-    tree_file(&name[..n], has_calls);
+    tree_file(&name[..n], has_calls)
 }
 
 // Reads the class-tree file of that name. Its tree is replayed over, or printed where there are no calls.
-fn tree_file(name: &[u8], has_calls: bool) {
-    let fd = os::open_read(name);
-    if fd < 0 {
-        os::fail(name);
-        return;
-    }
+fn tree_file(name: &[u8], has_calls: bool) -> Status {
     let mut bytes = io::large_buffer();
-    let n = io::read_full(fd, &mut bytes);
-    let is_whole = ends(fd, name);
-    libc::close(fd);
-    if !is_whole {
-        return;
+    let got = console::read_file(
+        name,
+        &mut bytes,
+        b"longer than 65536 bytes, no class-tree file",
+    );
+    if !got.is_read {
+        return Status::Failed;
     }
+    let n = got.bytes;
     let reading = file::reader::read(&bytes[..n]);
     let verdict = reading.verdict;
-    match verdict {
-        Verdict::Refused { why, class } => show::refused(why, class),
-        Verdict::Right => {
-            if has_calls {
-                calls_argument(reading.tree);
-            } else {
-                show::classes(reading.tree);
-            }
-        }
+    if let Verdict::Refused { why, class } = verdict {
+        console::say(Answer::TreeRefused { why, class });
+        return Status::Failed;
     }
-}
-
-// Whether the file ends here. `io::read_full` also stops where a read fails and where its buffer is full.
-fn ends(fd: i32, name: &[u8]) -> bool {
-    let mut one = [0u8; 1];
-    let got = libc::read(fd, &mut one);
-    if got < 0 {
-        os::fail(name);
-        return false;
+    if has_calls {
+        return calls_argument(reading.tree);
     }
-    if got > 0 {
-        complain(name, b": longer than 65536 bytes, no class-tree file\n");
-        return false;
-    }
-    true
-}
-
-// A name, and what is wrong with it.
-fn complain(name: &[u8], wrong: &[u8]) {
-    io::write_all(libc::STDERR_FILENO, name);
-    io::write_all(libc::STDERR_FILENO, wrong);
+    console::done(console::say_tree(reading.tree))
 }
 
 // The second argument, which names a file of calls.
-fn calls_argument(tree: Tree) {
+fn calls_argument(tree: Tree) -> Status {
     let mut name = io::buffer();
     let n = os::arg(2, &mut name);
     if os::errno() != 0 {
         os::fail(b"CALLS");
-        return;
+        return Status::Failed;
     }
-    calls_file(tree, &name[..n]);
+    calls_file(tree, &name[..n])
 }
 
-fn calls_file(tree: Tree, name: &[u8]) {
+fn calls_file(tree: Tree, name: &[u8]) -> Status {
     let fd = os::open_read(name);
     if fd < 0 {
         os::fail(name);
-        return;
+        return Status::Failed;
     }
-    turns::replay(tree, fd, name);
+    let is_done = turns::replay(tree, fd, name);
     libc::close(fd);
+    console::done(is_done)
 }

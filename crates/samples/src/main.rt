@@ -1,17 +1,18 @@
 // Reads each class-tree file that its arguments name, writes what it finds, and prints how both end.
 mod writing;
 
+use print::Answer;
 use tree::Tree;
 use tree::Verdict;
 
 // What stands at a number that no class can have.
 fn print_beyond(tree: Tree) {
     let class = tree::class_at(tree, 64);
-    show::text(b"at 64: parent");
-    show::number(class.parent as u64);
-    show::text(b" share");
-    show::number(class.share as u64);
-    show::text(b"\n");
+    console::text(b"at 64: parent");
+    console::number(class.parent as u64);
+    console::text(b" share");
+    console::number(class.share as u64);
+    console::text(b"\n");
 }
 
 // What the file of that name reads as.
@@ -28,10 +29,12 @@ fn print_file(name: &[u8]) {
     let verdict = reading.verdict;
     match verdict {
         Verdict::Right => {
-            show::classes(reading.tree);
+            console::say_tree(reading.tree);
             print_beyond(reading.tree);
         }
-        Verdict::Refused { why, class } => show::refused(why, class),
+        Verdict::Refused { why, class } => {
+            console::say(Answer::TreeRefused { why, class });
+        }
     }
     writing::print(reading.tree, &bytes[..n]);
 }
@@ -39,8 +42,8 @@ fn print_file(name: &[u8]) {
 fn print_argument(i: usize) {
     let mut name = io::buffer();
     let n = os::arg(i, &mut name);
-    show::text(&name[..n]);
-    show::text(b"\n");
+    console::text(&name[..n]);
+    console::text(b"\n");
     print_file(&name[..n]);
 }
 

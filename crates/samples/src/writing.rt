@@ -1,17 +1,18 @@
 // Writes the tree of a file into buffers, and prints how that ends. Every buffer is filled with one byte
 // first, so that it shows which bytes were written.
 use file::writer::Written;
+use print::Answer;
 use tree::Tree;
-ghost use Prim.Native.Nat.{_≤_};
+ghost use Prim.Native.Nat.{_≤_, _<_};
 ghost use lib.ListN.{length};
 
 const FILL: u8 = 170;
 
 fn print_whether(right: bool, so: &[u8], otherwise: &[u8]) {
     if right {
-        show::text(so);
+        console::text(so);
     } else {
-        show::text(otherwise);
+        console::text(otherwise);
     }
 }
 
@@ -19,20 +20,44 @@ fn filled() -> [u8; 4096] {
     [FILL; 4096]
 }
 
-// Whether so many bytes were written, and they are those of the file.
-fn is_file(out: &[u8; 4096], file: &[u8], total: usize) -> bool {
+// Where the byte at a place of a file stands in the same file of the other order, or in the same order.
+fn place(i: usize, is_turned: bool) -> usize
+    requires { ⌜ i < 4096 ⌝ }
+{
+    if is_turned {
+        return i + 3 - 2 * (i % 4);
+    }
+    i
+}
+
+// Whether so many bytes were written, and they are those of the file, or of the file in the other order.
+fn is_file(out: &[u8; 4096], file: &[u8], total: usize, is_turned: bool) -> bool {
     for i in 0..total {
         if 4096 <= i {
             return false;
         }
-        if file.len() <= i {
+        let k = place(i, is_turned);
+        if file.len() <= k {
             return false;
         }
-        if out[i] != file[i] {
+        if out[i] != file[k] {
             return false;
         }
     }
     total == file.len()
+}
+
+// A file that was read in the other order is written in this one.
+fn print_copy(out: &[u8; 4096], file: &[u8], total: usize) {
+    if is_file(out, file, total, false) {
+        console::text(b", as the file");
+        return;
+    }
+    print_whether(
+        is_file(out, file, total, true),
+        b", as the file in the other order",
+        b", not as the file",
+    );
 }
 
 // Whether the bytes from a place on are as they were.
@@ -61,13 +86,9 @@ fn print_writing(tree: Tree, file: &[u8], room: usize) {
     let answer = written(tree, &mut out, room);
     match answer {
         Written::Bytes(total) => {
-            show::text(b"written");
-            show::number(total as u64);
-            print_whether(
-                is_file(&out, file, total as usize),
-                b", as the file",
-                b", not as the file",
-            );
+            console::text(b"written");
+            console::number(total as u64);
+            print_copy(&out, file, total as usize);
             print_whether(
                 is_filled(&out, total as usize),
                 b", none beyond\n",
@@ -75,7 +96,7 @@ fn print_writing(tree: Tree, file: &[u8], room: usize) {
             );
         }
         Written::Refused { why, class } => {
-            show::refused(why, class);
+            console::say(Answer::TreeRefused { why, class });
             print_whether(is_filled(&out, 0), b"none written\n", b"some written\n");
         }
     }

@@ -1,6 +1,6 @@
 // The curve layer asked directly, where no call of the scheduler asks it so.
-use crate::show::line;
-use crate::show::text;
+use console::line;
+use console::text;
 use curve::Curve;
 use curve::Kept;
 use curve::Piece;

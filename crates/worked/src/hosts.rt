@@ -1,6 +1,7 @@
 // The functions for hosts in C: each is called, and what it writes to the places that it is lent is printed.
-use crate::show::number;
-use crate::show::text;
+use console::line;
+use console::number;
+use console::text;
 use state::table::Lengths;
 use state::table::Words;
 ghost use Rattle.state.specs.State.{Reached};
@@ -9,6 +10,7 @@ pub fn run(words: &mut Words, lengths: &mut Lengths) {
     by_words(words, lengths);
     by_file(words, lengths);
     refused(words, lengths);
+    written();
 }
 
 // As `start 0 fault 0`.
@@ -164,4 +166,36 @@ fn refused(words: &mut Words, lengths: &mut Lengths) {
     starts(words, lengths, &kind, 0);
     starts_file(words, lengths, b"short", 0);
     arrives(words, lengths, 0, 1, 500);
+}
+
+// As `write 0 total 60 fault 0`.
+fn writes(tree: &[u32], out: &mut [u8]) {
+    let mut total: u32 = 64;
+    let mut fault: u32 = 64;
+    let refusal = host::hfsc_write(tree, out, &mut total, &mut fault);
+    text(b"write");
+    number(refusal as u64);
+    text(b" total");
+    number(total as u64);
+    text(b" fault");
+    number(fault as u64);
+    text(b"\n");
+}
+
+// With just enough room, with a byte less, and a tree that is refused. What is written starts the scheduler.
+fn written() {
+    text(b"# for hosts in C: a tree written\n");
+    let small = [2u32, 0, 65536, 0, 0, 0, 0, 0, 1, 1, 65536, 0, 0];
+    let kind = [2u32, 0, 65536, 0, 0, 0, 0, 0, 1, 4, 1, 0, 0];
+    let mut exact = [0u8; 60];
+    let mut less = [0u8; 59];
+    writes(&small, &mut exact);
+    writes(&small, &mut less);
+    writes(&kind, &mut exact);
+    line(b"byte 0 of the file", wide(exact[0]));
+    line(b"byte 57 of the file", wide(exact[57]));
+}
+
+fn wide(b: u8) -> u64 {
+    b as u64
 }

@@ -10,7 +10,6 @@ mod curves;
 mod hosts;
 mod refusals;
 mod rows;
-mod show;
 mod stamps;
 mod trees;
 

@@ -2,9 +2,9 @@
 use crate::calls::arrives;
 use crate::calls::departs;
 use crate::calls::starts;
-use crate::show::line;
-use crate::show::text;
 use crate::trees;
+use console::line;
+use console::text;
 use rules::Departure;
 use state::table::Lengths;
 use state::table::Words;

@@ -4,7 +4,7 @@ use mathlib.Core.Path.{_≡_, sym, _∙_}
 use mathlib.Core.Bool.{true, false}
 use borrow.Author.Needs.{needs}
 use borrow.Author.Tests.{not-true, not-false}
-use Rattle.calls.specs.Numbers.{isNumber}
+use Rattle.wording.specs.Numbers.{isNumber}
 use Rattle.calls.proofs.Named.{past-bits}
 use Rattle.calls.proofs.arrival.Statement.{statement}
 use Rattle.calls.proofs.arrival.Tie as tie

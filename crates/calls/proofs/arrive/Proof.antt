@@ -2,9 +2,9 @@
 -- Assumes nothing.
 use mathlib.Core.Path.{ap, _∙_}
 use borrow.Author.Needs.{needs}
-use Rattle.calls.specs.Words.{first, after}
-use Rattle.calls.specs.Numbers.{numberOf}
-use Rattle.calls.specs.Lines.{onlyIn, arriveIn}
+use Rattle.wording.specs.Words.{first, after}
+use Rattle.wording.specs.Numbers.{numberOf, onlyIn}
+use Rattle.calls.specs.Lines.{arriveIn}
 use Rattle.calls.proofs.arrive.Statement.{statement}
 use Rattle.calls.proofs.arrive.Tie as tie
 

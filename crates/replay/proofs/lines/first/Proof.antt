@@ -1,47 +1,47 @@
--- `replay::lines::first` meets its contract: `start` leaves a reached state, and what it prints is counted.
+-- `replay::lines::first` meets its contract: each line gets its reply.
 -- Assumes nothing.
-use native.Mathlib.Omega.{arith}
+use mathlib.Core.Path.{refl}
+use Rattle.replay.proofs.Replies.{unmoved}
 use borrow.Author.Needs.{needs}
 use Rattle.replay.proofs.lines.first.Statement.{statement}
 use Rattle.replay.proofs.lines.first.Tie as tie
 
-parse-requires : tie.Need-parse-requires
-parse-requires c κs = search needs
-
-enum-known-call : tie.Need-enum-known-call
-enum-known-call c = search needs
-
-other-requires : tie.Need-other-requires
-other-requires c κs = search needs
-
-same-length : tie.Need-same-length
-same-length c = search needs
-
 returns : tie.Need-returns
-returns c = search needs
-
-start-requires : tie.Need-start-requires
-start-requires c κs = search needs
-
-started-requires : tie.Need-started-requires
-started-requires c κs = search needs
-
-same-length-2 : tie.Need-same-length-2
-same-length-2 c = search needs
+returns c = (rw (c .before .before .before .before .call .given .1) (c .start .ensures .0), c .start .ensures .1)
 
 returns-2 : tie.Need-returns-2
-returns-2 c = (search needs, omega arith)
+returns-2 c = (rw (c .before .before .call2 .given .1) (unmoved (c .stops .ensures)), search needs)
+
+returns-3 : tie.Need-returns-3
+returns-3 c = (rw (c .before .before .call3 .given .1) (unmoved (c .stops2 .ensures)), search needs)
+
+returns-4 : tie.Need-returns-4
+returns-4 c = (rw (c .enum-told .given .1) (unmoved refl), search needs)
+
+returns-5 : tie.Need-returns-5
+returns-5 c = (rw (c .before .enum-told2 .given .1) (unmoved (c .stops3 .ensures)), search needs)
+
+returns-6 : tie.Need-returns-6
+returns-6 c = (rw (c .before .enum-told3 .given .1) (unmoved (c .stops4 .ensures)), search needs)
 
 pub first-spec : {M : Type 1} → statement M
 first-spec =
     tie.close
     (tie.spec
-    parse-requires
-    enum-known-call
-    other-requires
-    same-length
+    (λ c. search needs)
+    (λ c κs. search needs)
+    (λ c. search needs)
+    (λ c κs. search needs)
+    (λ c. search needs)
+    (λ c κs. search needs)
+    (λ c. search needs)
+    (λ c. search needs)
+    (λ c κs. search needs)
+    (λ c. search needs)
+    (λ c κs. search needs)
     returns
-    start-requires
-    started-requires
-    same-length-2
-    returns-2)
+    returns-2
+    returns-3
+    returns-4
+    returns-5
+    returns-6)

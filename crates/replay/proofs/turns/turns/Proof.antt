@@ -1,114 +1,74 @@
--- `replay::turns::turns` is safe and ends: every turn leaves a reached state, and the text to replay within its array.
+-- `replay::turns::turns` is safe and ends: every turn leaves a reached state, and the text to replay and the bytes that wait within their arrays.
 -- Assumes nothing.
-use Prim.Native.Nat.{_≤_, _<_}
+use Prim.Native.Nat.{_≤_}
 use native.Mathlib.Omega.{arith}
-use mathlib.Core.Path.{_≡_, ap}
+use mathlib.Core.Path.{_≡_, sym, ap}
 use mathlib.Core.Logic.{⊎-elim}
-use lib.ListN.{length}
+use lib.ListN.{length, take}
+use lib.Seq.{length-take-le}
 use borrow.Author.Needs.{needs}
 use Rattle.state.specs.State.{Reached}
+use Rattle.replay.specs.declared.turns.Window.{Window}
 use Rattle.replay.proofs.turns.turns.Statement.{statement}
 use Rattle.replay.proofs.turns.turns.Tie as tie
 
 abbrev Inv-loop : tie.InvT-loop
-Inv-loop tree fd name words₀ lengths₀ text₀ out₀ run₀ from₀ end₀ left₀ t14 words lengths text out run from end left =
-    Reached words lengths × (run .used < length out) × (from ≤ end) × (end ≤ length text) × (length text ≡ length text₀) × (length out ≡ length out₀)
+Inv-loop tree fd name words₀ lengths₀ text₀ out₀ line₀ run₀ at₀ left₀ words lengths text out line run at left =
+    Reached words lengths × (at .used ≤ length out) × (at .from ≤ at .end) × (at .end ≤ length text) × (length text ≡ length text₀) × (length out ≡ length out₀)
 
 abbrev μ-loop : tie.MeasureT-loop
-μ-loop tree fd name words₀ lengths₀ text₀ out₀ run₀ from₀ end₀ left₀ t14 words lengths text out run from end left = left
+μ-loop tree fd name words₀ lengths₀ text₀ out₀ line₀ run₀ at₀ left₀ words lengths text out line run at left = left
 
-before-requires : tie.Need-before-requires Inv-loop μ-loop
-before-requires c κs = search needs
-
-loop-holds : tie.Need-loop-holds Inv-loop μ-loop
-loop-holds c = search needs
+slice-aggregate-line-end : tie.Need-slice-aggregate-line-end Inv-loop μ-loop
+slice-aggregate-line-end c = let loop = c .before .before .before .before .loop in sym (length-take-le (loop .at .end) (loop .text) (loop .inv .3))
 
 line-end-requires : tie.Need-line-end-requires Inv-loop μ-loop
-line-end-requires c κs = search needs
+line-end-requires c κs =
+    let loop = c .before .before .before .before .loop in
+    let within : loop .at .from ≤ length (take (loop .at .end) (loop .text)) = omega (arith, loop .inv .2, length-take-le (loop .at .end) (loop .text) (loop .inv .3)) in
+    within
 
-sub-replay : tie.Need-sub-replay Inv-loop μ-loop
-sub-replay c = search needs
+queue-requires : tie.Need-queue-requires Inv-loop μ-loop
+queue-requires c κs =
+    let loop = c .before .before .before .before .before .before .before .before .before .before .before .before .before .before .loop in
+    let told = c .before .before .replay .ensures .1 .1 in
+    (loop .inv .1, omega (arith, told .0 .1, told .1, loop .inv .5, c .before .before .before .before .before .before .before .before .before .before .before .before .before .before .before .before .before .before .before .before .pre .1))
 
-part-replay-start : tie.Need-part-replay-start Inv-loop μ-loop
-part-replay-start c = search needs
-
-part-replay-end : tie.Need-part-replay-end Inv-loop μ-loop
-part-replay-end c = search needs
-
-replay-requires : tie.Need-replay-requires Inv-loop μ-loop
-replay-requires c κs = search needs
-
-add-from : tie.Need-add-from Inv-loop μ-loop
-add-from c = omega (arith, c .before .before .before .before .before .before .before .before, c .before .before .before .before .before .before .before .before .before .before .before .before .before .loop .inv, c .before .before .before .before .before .before .before .before .before .before .before .before .before .before .before .before .before .before .good)
-
-sub-if3 : tie.Need-sub-if3 Inv-loop μ-loop
-sub-if3 c = search needs
-
-counted-requires : tie.Need-counted-requires Inv-loop μ-loop
-counted-requires c κs = search needs
-
-slice-aggregate-faulty : tie.Need-slice-aggregate-faulty Inv-loop μ-loop
-slice-aggregate-faulty c = search needs
-
-faulty-requires : tie.Need-faulty-requires Inv-loop μ-loop
-faulty-requires c κs = search needs
-
-flush-requires : tie.Need-flush-requires Inv-loop μ-loop
-flush-requires c κs = search needs
-
-refill-requires : tie.Need-refill-requires Inv-loop μ-loop
-refill-requires c κs = search needs
-
-flushed-requires : tie.Need-flushed-requires Inv-loop μ-loop
-flushed-requires c κs = search needs
-
-sub-left : tie.Need-sub-left Inv-loop μ-loop
-sub-left c = search needs
-
-loop-less : tie.Need-loop-less Inv-loop μ-loop
-loop-less c = search needs
+queue-requires-2 : tie.Need-queue-requires-2 Inv-loop μ-loop
+queue-requires-2 c κs =
+    let loop = c .before .before .before .before .before .before .before .before .before .before .before .loop in
+    let told = c .before .before .overlong .ensures .1 in
+    (loop .inv .1, omega (arith, told .0 .1, told .1, loop .inv .5, c .before .before .before .before .before .before .before .before .before .before .before .before .before .before .before .before .before .pre .1))
 
 loop-again : tie.Need-loop-again Inv-loop μ-loop
 loop-again c =
     ⊎-elim
     (λ w. (
-      rw (w .9, w .10) (w .6 .ensures .0),
-      rw (w .12, w .13) (w .6 .ensures .1),
-      omega (arith, w .0 .taken, w .14, w .15),
-      omega (arith, ap length (w .11), w .15),
-      omega (arith, ap length (w .11)),
-      omega (arith, ap length (w .12), w .7 .given),
+      rw (w .13, w .14) (w .6 .ensures .1 .0),
+      rw (w .16, w .19, w .12 .ensures .2) (w .9 .ensures .within .0),
+      omega (arith, w .0 .taken, ap (λ (a : Window). a .from) (w .19), w .12 .ensures .0, ap (λ (a : Window). a .end) (w .19), w .12 .ensures .1),
+      omega (arith, ap length (w .15), ap (λ (a : Window). a .end) (w .19), w .12 .ensures .1),
+      omega (arith, ap length (w .15)),
+      omega (arith, ap length (w .16), w .10 .given),
     ))
     (⊎-elim
     (λ w. (
-      rw (w .8, w .9) (c .before .before .before .before .before .loop .inv .0),
-      rw (w .11, w .12) (w .5 .ensures),
-      omega (arith, w .13, w .14),
-      omega (arith, ap length (w .10), w .14),
-      omega (arith, ap length (w .10)),
-      omega (arith, ap length (w .11), w .6 .given),
+      rw (w .10, w .11) (c .before .before .before .before .before .before .loop .inv .0),
+      rw (w .13, w .16, w .9 .ensures .2) (w .6 .ensures .within .0),
+      omega (arith, ap (λ (a : Window). a .from) (w .16), w .9 .ensures .0, ap (λ (a : Window). a .end) (w .16), w .9 .ensures .1),
+      omega (arith, ap length (w .12), ap (λ (a : Window). a .end) (w .16), w .9 .ensures .1),
+      omega (arith, ap length (w .12)),
+      omega (arith, ap length (w .13), w .7 .given),
     ))
     (λ w. (
-      rw (w .10, w .11) (c .before .before .before .before .before .loop .inv .0),
-      rw (w .13, w .14, w .9 .ensures) (omega arith),
-      omega (arith, w .15),
-      omega (arith, w .5 .ensures, w .16, ap length (w .12)),
-      omega (arith, ap length (w .12), w .6 .given),
-      omega (arith, ap length (w .13)),
+      rw (w .9, w .10) (c .before .before .before .before .before .before .loop .inv .0),
+      omega (arith, ap (λ (a : Window). a .used) (w .15), w .6 .ensures .1),
+      omega (arith, ap (λ (a : Window). a .from) (w .15), w .6 .ensures .0),
+      omega (arith, w .6 .ensures .2, ap (λ (a : Window). a .end) (w .15), ap length (w .11)),
+      omega (arith, ap length (w .11), w .7 .given),
+      omega (arith, ap length (w .12)),
     )))
-    (c .if2 .came)
-
-flush-requires-2 : tie.Need-flush-requires-2 Inv-loop μ-loop
-flush-requires-2 c κs = search needs
-
-same-length : tie.Need-same-length Inv-loop μ-loop
-same-length c = search needs
-
-same-length-2 : tie.Need-same-length-2 Inv-loop μ-loop
-same-length-2 c = search needs
-
-returns : tie.Need-returns Inv-loop μ-loop
-returns c = search needs
+    (c .if3 .came)
 
 pub turns-spec : {M : Type 1} → statement M
 turns-spec =
@@ -116,25 +76,37 @@ turns-spec =
     (tie.spec
     Inv-loop
     μ-loop
-    before-requires
-    loop-holds
+    (λ c κs. search needs)
+    (λ c κs. search needs)
+    (λ c. search needs)
+    (λ c. search needs)
+    slice-aggregate-line-end
     line-end-requires
-    sub-replay
-    part-replay-start
-    part-replay-end
-    replay-requires
-    add-from
-    sub-if3
-    counted-requires
-    slice-aggregate-faulty
-    faulty-requires
-    flush-requires
-    refill-requires
-    flushed-requires
-    sub-left
-    loop-less
+    (λ c. search needs)
+    (λ c. search needs)
+    (λ c. search needs)
+    (λ c. search needs)
+    (λ c κs. search needs)
+    (λ c. search needs)
+    (λ c. search needs)
+    queue-requires
+    (λ c κs. search needs)
+    (λ c. search needs)
+    (λ c κs. search needs)
+    (λ c. search needs)
+    (λ c. search needs)
+    queue-requires-2
+    (λ c κs. search needs)
+    (λ c κs. search needs)
+    (λ c κs. search needs)
+    (λ c κs. search needs)
+    (λ c. search needs)
+    (λ c. search needs)
     loop-again
-    flush-requires-2
-    same-length
-    same-length-2
-    returns)
+    (λ c κs. search needs)
+    (λ c. search needs)
+    (λ c. search needs)
+    (λ c. search needs)
+    (λ c. search needs)
+    (λ c. search needs)
+    (λ c. search needs))

@@ -5,16 +5,19 @@ use Rattle.samples.proofs.writing.is_file.Statement.{statement}
 use Rattle.samples.proofs.writing.is_file.Tie as tie
 
 abbrev Inv-loop : tie.InvT-loop
-Inv-loop out file total i₀ i = i ≤ total
+Inv-loop out file total is-turned i₀ i = i ≤ total
 
 abbrev μ-loop : tie.MeasureT-loop
-μ-loop out file total i₀ i = total - i
+μ-loop out file total is-turned i₀ i = total - i
 
 loop-holds : tie.Need-loop-holds Inv-loop μ-loop
 loop-holds c = search needs
 
 returns : tie.Need-returns Inv-loop μ-loop
 returns c = search needs
+
+place-requires : tie.Need-place-requires Inv-loop μ-loop
+place-requires c κs = search needs
 
 returns-2 : tie.Need-returns-2 Inv-loop μ-loop
 returns-2 c = search needs
@@ -48,6 +51,7 @@ is-file-spec =
     μ-loop
     loop-holds
     returns
+    place-requires
     returns-2
     element-copy-out-if3
     shared-slice-read-if3

@@ -1,0 +1,5 @@
+pub mod Letters
+pub mod Words
+pub mod Numbers
+pub mod Decimal
+pub mod Theorems
