@@ -2,6 +2,7 @@
 
 use crate::file;
 use crate::history::{History, Rule};
+use crate::lines::{is_number, lines, number, words, Answer, Fault, FaultyLine};
 use crate::tree::{Refusal, Tree};
 
 pub const HALF_ROUND: u32 = 1 << 31;
@@ -122,26 +123,6 @@ pub enum Call {
     Depart { stamp: u32 },
 }
 
-/// Why a line is no call.
-#[derive(Clone, Copy, Debug, PartialEq, Eq)]
-pub enum Fault {
-    NotACall,
-    /// A call in form, with a number past 32 bits.
-    TooLarge,
-}
-
-/// The words of a line, before its comment. White space is a space, a tab or a carriage return.
-fn words(line: &[u8]) -> Vec<&[u8]> {
-    let text = line.split(|&byte| byte == b'#').next().unwrap_or(line);
-    text.split(|byte| b" \t\r".contains(byte)).filter(|word| !word.is_empty()).collect()
-}
-
-/// A word of decimal digits as a number of 32 bits.
-fn number(digits: &[u8]) -> Result<u32, Fault> {
-    let more = |value: u32, digit: &u8| value.checked_mul(10)?.checked_add(u32::from(digit - b'0'));
-    digits.iter().try_fold(0, more).ok_or(Fault::TooLarge)
-}
-
 /// A line without its end: nothing for a blank line or a comment. The form is judged first, then the size of the numbers.
 pub fn parse_line(line: &[u8]) -> Result<Option<Call>, Fault> {
     if line.len() > LINE_TOP {
@@ -154,7 +135,7 @@ pub fn parse_line(line: &[u8]) -> Result<Option<Call>, Fault> {
         b"arrive" => operands.len() == 3,
         _ => false,
     };
-    if !in_form || !operands.concat().iter().all(u8::is_ascii_digit) {
+    if !in_form || !is_number(&operands.concat()) {
         return Err(Fault::NotACall);
     }
     let numbers = operands.iter().map(|digits| number(digits)).collect::<Result<Vec<u32>, Fault>>()?;
@@ -172,10 +153,6 @@ pub fn print_call(call: Call) -> String {
         Call::Arrive { stamp, class, length } => format!("arrive {stamp} {class} {length}"),
         Call::Depart { stamp } => format!("depart {stamp}"),
     }
-}
-
-pub fn print_tree_refusal(refusal: Refusal) -> String {
-    format!("refused {} class {}", refusal.number, refusal.class)
 }
 
 pub fn print_arrival(answer: Result<usize, u32>) -> String {
@@ -202,13 +179,6 @@ fn print_packet(packet: Packet) -> String {
     format!("packet class {} number {} length {} rule {rule}{times}", packet.class, packet.number, packet.length)
 }
 
-fn print_fault(line: usize, fault: Fault) -> String {
-    match fault {
-        Fault::NotACall => format!("line {line}: not a call"),
-        Fault::TooLarge => format!("line {line}: number past 32 bits"),
-    }
-}
-
 /// One call on the state there is so far; start comes first, and once.
 fn answer(tree: &Tree, state: &mut Option<State>, call: Call) -> Result<String, Fault> {
     match (state.as_mut(), call) {
@@ -218,19 +188,20 @@ fn answer(tree: &Tree, state: &mut Option<State>, call: Call) -> Result<String, 
         }
         (Some(state), Call::Arrive { stamp, class, length }) => Ok(print_arrival(state.arrive(stamp, class, length))),
         (Some(state), Call::Depart { stamp }) => Ok(print_departure(state.depart(stamp))),
-        _ => Err(Fault::NotACall),
+        (None, _) => Err(Fault::StartFirst),
+        (Some(_), Call::Start { .. }) => Err(Fault::StartedAlready),
     }
 }
 
-/// Everything that a replay of these calls on this tree file prints.
-pub fn replay(tree_file: &[u8], calls: &[u8]) -> String {
+/// What a replay of these calls on this tree file prints, and its status. A refused call is an answer.
+pub fn replay(tree_file: &[u8], calls: &[u8]) -> Answer {
     let tree = match file::read(tree_file) {
         Ok(tree) => tree,
-        Err(refusal) => return print_tree_refusal(refusal) + "\n",
+        Err(refusal) => return Answer::ended(String::new(), refusal),
     };
     let mut printed = String::new();
     let mut state = None;
-    for (before, line) in calls.split(|&byte| byte == b'\n').enumerate() {
+    for (number, line) in lines(calls) {
         let answered = match parse_line(line) {
             Ok(None) => continue,
             Ok(Some(call)) => answer(&tree, &mut state, call),
@@ -238,17 +209,17 @@ pub fn replay(tree_file: &[u8], calls: &[u8]) -> String {
         };
         match answered {
             Ok(text) => printed += &(text + "\n"),
-            Err(fault) => return printed + &print_fault(before + 1, fault) + "\n",
+            Err(fault) => return Answer::ended(printed, FaultyLine { number, fault }),
         }
     }
-    printed
+    Answer::done(printed)
 }
 
-/// What `replay TREE` alone prints.
-pub fn show_tree(tree_file: &[u8]) -> String {
+/// What `replay TREE` alone prints, and its status.
+pub fn show_tree(tree_file: &[u8]) -> Answer {
     match file::read(tree_file) {
-        Ok(tree) => tree.print(),
-        Err(refusal) => print_tree_refusal(refusal) + "\n",
+        Ok(tree) => Answer::done(tree.print()),
+        Err(refusal) => Answer::ended(String::new(), refusal),
     }
 }
 
@@ -299,17 +270,33 @@ mod tests {
     }
 
     #[test]
-    fn a_line_that_is_no_call_stops_the_replay() {
-        let tree = crate::file::file_of(&two_leaves(), crate::file::Order::Big);
-        let prints = |calls: &str, printed: &str| assert_eq!(replay(&tree, calls.as_bytes()), printed, "{calls}");
-        prints("# first\n\nstart 5\ndepart 6\nleave 7\ndepart 8\n", "started 3\nnone waits\nline 5: not a call\n");
-        prints("start 5\r\n\r\ndepart 6", "started 3\nnone waits\n");
-        prints("start 5\rdepart 6\n", "line 1: not a call\n");
-        prints("depart 6\n", "line 1: not a call\n");
-        prints("depart 4294967296\n", "line 1: number past 32 bits\n");
-        prints("start 5\nstart 5\n", "started 3\nline 2: not a call\n");
-        prints("", "");
-        assert_eq!(replay(&[], b"start 5\n"), "refused 1 class 0\n");
+    fn replays_of_text() {
+        let tree = file::file_of(&two_leaves(), file::Order::Big);
+        let answers = |calls: &str, printed: &str, status| {
+            assert_eq!(replay(&tree, calls.as_bytes()), Answer { printed: printed.to_string(), status }, "{calls}");
+        };
+        answers("# first\n\nstart 5\ndepart 6\nleave 7\ndepart 8\n", "started 3\nnone waits\nline 5: not a call\n", 1);
+        answers("start 5\r\n\r\ndepart 6", "started 3\nnone waits\n", 0);
+        answers("start 5\rdepart 6\n", "line 1: not a call\n", 1);
+        answers("start 5\narrive 6 0 1\ndepart 4\n", "started 3\nrefused 11\nrefused 14\n", 0);
+        answers("", "", 0);
+        assert_eq!(replay(&[], b"start 5\n"), Answer { printed: "refused 1 class 0\n".to_string(), status: 1 });
+    }
+
+    /// A line is judged by itself first, before `start` too.
+    #[test]
+    fn start_comes_first_and_once() {
+        let tree = file::file_of(&two_leaves(), file::Order::Big);
+        let ends = |calls: &str, printed: &str| assert_eq!(replay(&tree, calls.as_bytes()).printed, printed, "{calls}");
+        ends("depart 6\n", "line 1: start comes first\n");
+        ends("\n# so\narrive 6 9 0\nstart 7", "line 3: start comes first\n");
+        ends("depart 4294967296\n", "line 1: number past 32 bits\n");
+        ends("depart 6 7\n", "line 1: not a call\n");
+        ends("start 4294967296\ndepart 6\n", "line 1: number past 32 bits\n");
+        ends("start 5\nstart 5\n", "started 3\nline 2: started already\n");
+        ends("start 5\ndepart 6\n\nstart 6 # again\ndepart 7", "started 3\nnone waits\nline 4: started already\n");
+        ends("start 5\nstart 4294967296\n", "started 3\nline 2: number past 32 bits\n");
+        ends("start 5\nstart\n", "started 3\nline 2: not a call\n");
     }
 
     /// 2^40 accepted bytes are out of reach, so the limit is lowered to 10,000: exactly that is allowed.

@@ -8,4 +8,6 @@ pub mod curves;
 pub mod file;
 pub mod gen;
 pub mod history;
+pub mod lines;
+pub mod text;
 pub mod tree;

@@ -9,6 +9,13 @@ pub struct Refusal {
     pub class: usize,
 }
 
+/// As the refusal of a tree is printed.
+impl std::fmt::Display for Refusal {
+    fn fmt(&self, to: &mut std::fmt::Formatter) -> std::fmt::Result {
+        write!(to, "refused {} class {}", self.number, self.class)
+    }
+}
+
 pub fn refusal(number: u32, class: usize) -> Refusal {
     Refusal { number, class }
 }

@@ -121,8 +121,8 @@ fn as_lines() {
     let expected = "started 3\naccepted number 0\naccepted number 0\n\
         packet class 1 number 0 length 500 rule real-time eligible 0 deadline 1000\n\
         packet class 2 number 0 length 1000 rule real-time eligible 0 deadline 4000\nnone waits\n";
-    assert_eq!(printed, expected);
+    assert_eq!(printed.printed, expected);
     let tree = "tree\nclass 0 parent 0 share 65536 none\nclass 1 parent 0 share 16384 front-loaded 32768 2000 16384\n\
         class 2 parent 0 share 49152 delayed 2000 32768\n";
-    assert_eq!(outside::calls::show_tree(&file), tree);
+    assert_eq!(outside::calls::show_tree(&file).printed, tree);
 }

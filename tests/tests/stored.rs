@@ -2,6 +2,8 @@
 
 use outside::calls::{replay, show_tree};
 use outside::file::read;
+use outside::lines::Answer;
+use outside::text::maketree;
 use outside::tree::refusal;
 use std::fs;
 use std::path::PathBuf;
@@ -18,19 +20,44 @@ fn text(path: &str) -> String {
     String::from_utf8(bytes(path)).unwrap()
 }
 
+fn files_of_the_corpus(wanted: &str) -> Vec<PathBuf> {
+    let folder = fs::read_dir(here("corpus")).unwrap().map(|entry| entry.unwrap().path());
+    folder.filter(|path| path.extension().is_some_and(|end| end == wanted)).collect()
+}
+
+/// The status that corpus.sh expects by what is printed: 1 after the refusal of a tree, or a faulty line.
+fn status_told_by(out: &str) -> i32 {
+    let last = out.lines().last().unwrap_or_default();
+    let refused = last.strip_prefix("refused ").is_some_and(|rest| rest.contains(" class "));
+    i32::from(refused || last.starts_with("line "))
+}
+
 #[test]
 fn the_corpus() {
-    let folder = fs::read_dir(here("corpus")).unwrap().map(|entry| entry.unwrap().path());
-    let trees: Vec<PathBuf> = folder.filter(|path| path.extension().is_some_and(|end| end == "tree")).collect();
-    assert!(trees.len() >= 40);
+    let trees = files_of_the_corpus("tree");
+    assert!(trees.len() >= 200);
     for tree in trees {
         let tree_file = fs::read(&tree).unwrap();
-        let printed = match fs::read(tree.with_extension("calls")) {
+        let answer = match fs::read(tree.with_extension("calls")) {
             Ok(calls) => replay(&tree_file, &calls),
             Err(_) => show_tree(&tree_file),
         };
         let out = fs::read_to_string(tree.with_extension("out")).unwrap();
-        assert_eq!(printed, out, "{}", tree.display());
+        assert_eq!(answer.printed, out, "{}", tree.display());
+        assert_eq!(answer.status, status_told_by(&out), "{}", tree.display());
+    }
+}
+
+#[test]
+fn the_texts_of_the_corpus() {
+    let texts = files_of_the_corpus("text");
+    assert!(texts.len() >= 100);
+    for text in texts {
+        let (answer, file) = maketree(&fs::read(&text).unwrap());
+        let out = fs::read_to_string(text.with_extension("out")).unwrap();
+        assert_eq!(answer.printed, out, "{}", text.display());
+        assert_eq!(answer.status, status_told_by(&out), "{}", text.display());
+        assert_eq!(file, fs::read(text.with_extension("made")).ok(), "{}", text.display());
     }
 }
 
@@ -38,9 +65,10 @@ fn the_corpus() {
 fn the_studio() {
     let calls = bytes("../examples/studio.calls");
     for tree in ["../examples/studio.tree", "../examples/studio-little.tree"] {
-        assert_eq!(show_tree(&bytes(tree)), text("../examples/studio.txt"));
-        assert_eq!(replay(&bytes(tree), &calls), text("../examples/studio.out"));
+        assert_eq!(show_tree(&bytes(tree)), Answer::done(text("../examples/studio.txt")));
+        assert_eq!(replay(&bytes(tree), &calls), Answer::done(text("../examples/studio.out")));
     }
+    assert_eq!(maketree(&bytes("../examples/studio.txt")), (Answer::done(String::new()), Some(bytes("../examples/studio.tree"))));
     let refused = ["cut", "share", "fit"].map(|what| read(&bytes(&format!("../examples/damaged-{what}.tree"))).unwrap_err());
     assert_eq!(refused, [refusal(5, 0), refusal(7, 4), refusal(10, 0)]);
 }

@@ -1,16 +1,21 @@
-//! `driver REPLAY [--seed S] [--runs N] [--calls N] [--tree]`
+//! `driver REPLAY [--maketree MAKETREE] [--seed S] [--runs N] [--calls N] [--tree]`
 //! takes the cases told by hand and at the edge of each rule, on trees and on lines, then N cases from seed S on, runs the program REPLAY on each with two more arguments,
-//! TREE and CALLS, and compares what it prints with the model, line by line. With --tree it also compares what REPLAY prints for
-//! TREE alone. At the first difference it keeps the files, says where, and ends with status 1.
+//! TREE and CALLS, and compares what it prints, line by line, and its exit status with the model. With --tree it also compares what REPLAY prints for
+//! TREE alone. With --maketree it then does the same for texts of trees: what MAKETREE answers and which file it makes, text to file to text, file to text
+//! to file, and that a file that is there stays. At the first difference it keeps the files, says where, and ends with status 1.
 
 use outside::calls::show_tree;
-use outside::gen::{by_hand, case, edges, more_by_hand, sort_of_answer, texts, Case};
+use outside::file::{file_of, read, Order};
+use outside::gen::{by_hand, case, edges, more_by_hand, more_texts, random_tree, sort_of_answer, text_case, text_corpus, texts, Case, Dice, TextCase};
+use outside::lines::Answer;
 use std::collections::BTreeMap;
+use std::fs;
 use std::path::{Path, PathBuf};
 use std::process::{exit, Command};
 
 struct Options {
-    program: String,
+    replay: String,
+    maketree: Option<String>,
     seed: u64,
     runs: u64,
     calls: usize,
@@ -18,37 +23,47 @@ struct Options {
 }
 
 fn usage() -> ! {
-    eprintln!("usage: driver REPLAY [--seed S] [--runs N] [--calls N] [--tree]");
+    eprintln!("usage: driver REPLAY [--maketree MAKETREE] [--seed S] [--runs N] [--calls N] [--tree]");
     exit(2)
 }
 
 fn options() -> Options {
     let mut arguments = std::env::args().skip(1);
-    let program = arguments.next().filter(|first| !first.starts_with("--")).unwrap_or_else(|| usage());
-    let mut options = Options { program, seed: 1, runs: 100, calls: 120, tree: false };
+    let replay = arguments.next().filter(|first| !first.starts_with("--")).unwrap_or_else(|| usage());
+    let mut options = Options { replay, maketree: None, seed: 1, runs: 100, calls: 120, tree: false };
     while let Some(option) = arguments.next() {
         if option == "--tree" {
             options.tree = true;
             continue;
         }
-        let value: u64 = arguments.next().and_then(|text| text.parse().ok()).unwrap_or_else(|| usage());
+        let value = arguments.next().unwrap_or_else(|| usage());
+        let number = || value.parse::<u64>().unwrap_or_else(|_| usage());
         match option.as_str() {
-            "--seed" => options.seed = value,
-            "--runs" => options.runs = value,
-            "--calls" => options.calls = value as usize,
+            "--maketree" => options.maketree = Some(value),
+            "--seed" => options.seed = number(),
+            "--runs" => options.runs = number(),
+            "--calls" => options.calls = number() as usize,
             _ => usage(),
         }
     }
     options
 }
 
-/// Standard output of the program on these files; the shell splits the command line as it was given.
-fn output(program: &str, files: &[&Path]) -> String {
+/// What a program printed, how it ended, and what it said besides.
+struct Ran {
+    answer: Answer,
+    said: String,
+}
+
+/// Run a program on these files; the shell splits the command line as it was given.
+fn run(program: &str, files: &[&Path]) -> Ran {
     let ran = Command::new("sh").arg("-c").arg(format!("{program} \"$@\"")).arg("sh").args(files).output();
-    match ran {
-        Ok(ran) => String::from_utf8_lossy(&ran.stdout).into_owned(),
-        Err(fault) => format!("could not run {program}: {fault}\n"),
-    }
+    let ran = ran.unwrap_or_else(|fault| {
+        eprintln!("driver: could not run {program}: {fault}");
+        exit(2)
+    });
+    let text = |bytes: &[u8]| String::from_utf8_lossy(bytes).into_owned();
+    Ran { answer: Answer { printed: text(&ran.stdout), status: ran.status.code().unwrap_or(-1) }, said: text(&ran.stderr) }
 }
 
 /// Number and both texts of the first line that differs; a missing line counts as one.
@@ -64,34 +79,120 @@ fn first_difference<'a>(ours: &'a str, theirs: &'a str) -> Option<(usize, &'a st
     }
 }
 
-fn compare(what: &str, folder: &Path, ours: &str, theirs: &str) {
-    let Some((number, model, program)) = first_difference(ours, theirs) else { return };
-    std::fs::write(folder.join("expected"), ours).expect("write expected");
-    std::fs::write(folder.join("printed"), theirs).expect("write printed");
-    println!("{what}: line {number} of the answers differs");
-    println!("model:   {}", model.trim_end_matches('\n'));
-    println!("program: {}", program.trim_end_matches('\n'));
-    println!("files kept in {}", folder.display());
-    exit(1)
+/// The files of the case that is being compared.
+struct Room {
+    folder: PathBuf,
 }
 
-fn write_case(folder: &Path, case: &Case) -> (PathBuf, PathBuf) {
-    let (tree, calls) = (folder.join("tree"), folder.join("calls"));
-    std::fs::write(&tree, &case.tree_file).expect("write the tree file");
-    std::fs::write(&calls, case.calls.as_deref().unwrap_or_default()).expect("write the calls file");
-    (tree, calls)
+impl Room {
+    fn new() -> Room {
+        let folder = std::env::temp_dir().join(format!("driver-{}", std::process::id()));
+        fs::create_dir_all(&folder).expect("make a temporary folder");
+        Room { folder }
+    }
+
+    /// A file of these bytes.
+    fn put(&self, name: &str, bytes: &[u8]) -> PathBuf {
+        let path = self.folder.join(name);
+        fs::write(&path, bytes).expect("write a file of the case");
+        path
+    }
+
+    /// The name of a file that is not there.
+    fn free(&self, name: &str) -> PathBuf {
+        let path = self.folder.join(name);
+        let _ = fs::remove_file(&path);
+        path
+    }
+
+    fn differs(&self, what: &str, model: &str, program: &str) -> ! {
+        println!("{what}");
+        println!("model:   {}", model.trim_end_matches('\n'));
+        println!("program: {}", program.trim_end_matches('\n'));
+        println!("files kept in {}", self.folder.display());
+        exit(1)
+    }
+
+    fn compare(&self, what: &str, model: &Answer, ran: &Ran) {
+        let program = &ran.answer;
+        if let Some((number, ours, theirs)) = first_difference(&model.printed, &program.printed) {
+            self.put("expected", model.printed.as_bytes());
+            self.put("printed", program.printed.as_bytes());
+            self.differs(&format!("{what}: line {number} of the answers differs"), ours, theirs);
+        }
+        if model.status != program.status {
+            let theirs = format!("{} {}", program.status, ran.said);
+            self.differs(&format!("{what}: the status differs"), &model.status.to_string(), &theirs);
+        }
+    }
+
+    /// A file holds these bytes, or is not there.
+    fn compare_file(&self, what: &str, model: Option<&[u8]>, path: &Path) {
+        let found = fs::read(path).ok();
+        if found.as_deref() != model {
+            let told = |bytes: Option<&[u8]>| bytes.map_or("no file".to_string(), |bytes| format!("a file of {} bytes: {bytes:02x?}", bytes.len()));
+            self.differs(&format!("{what}: the file {} differs", path.display()), &told(model), &told(found.as_deref()));
+        }
+    }
 }
 
-/// Run the program on one case and compare; answers what the model printed.
-fn check(options: &Options, folder: &Path, case: &Case) -> String {
-    let (tree, calls) = write_case(folder, case);
-    let expected = case.printed();
-    compare(&case.name, folder, &expected, &output(&options.program, &[&tree, &calls]));
+/// Run the replay program on one case and compare; answers what the model printed.
+fn check(options: &Options, room: &Room, case: &Case) -> String {
+    let tree = room.put("tree", &case.tree_file);
+    let calls = room.put("calls", case.calls.as_deref().unwrap_or_default());
+    let expected = case.answer();
+    room.compare(&case.name, &expected, &run(&options.replay, &[&tree, &calls]));
     if options.tree {
         let what = format!("{}, tree alone", case.name);
-        compare(&what, folder, &show_tree(&case.tree_file), &output(&options.program, &[&tree]));
+        room.compare(&what, &show_tree(&case.tree_file), &run(&options.replay, &[&tree]));
     }
-    expected
+    expected.printed
+}
+
+/// A text and the file that is made of it, and that file's text; answers what the model printed.
+fn check_text(options: &Options, maketree: &str, room: &Room, case: &TextCase) -> String {
+    let (text, tree, beside) = (room.put("text", &case.text), room.free("made"), room.free("made.new"));
+    let (expected, file) = case.answer();
+    room.compare(&case.name, &expected, &run(maketree, &[&text, &tree]));
+    room.compare_file(&case.name, file.as_deref(), &tree);
+    room.compare_file(&case.name, None, &beside);
+    let Some(file) = file else { return expected.printed };
+    let what = format!("{}, text of the file", case.name);
+    room.compare(&what, &show_tree(&file), &run(&options.replay, &[&tree]));
+    "written\n".to_string()
+}
+
+/// Where a file of that name is, it stays, whatever the text says.
+fn check_taken(maketree: &str, room: &Room, case: &TextCase) {
+    let (text, tree, beside) = (room.put("text", &case.text), room.put("made", b"a file that was there"), room.free("made.new"));
+    let what = format!("{}, over a file that is there", case.name);
+    let (expected, file) = case.answer();
+    let ran = run(maketree, &[&text, &tree]);
+    if file.is_some() {
+        room.compare(&what, &Answer { printed: String::new(), status: 1 }, &ran);
+        let message = format!("{}: File exists", tree.display());
+        if ran.said.lines().last() != Some(&message) {
+            room.differs(&format!("{what}: what it says differs"), &message, &ran.said);
+        }
+    } else if ran.answer.status != expected.status {
+        room.differs(&format!("{what}: the status differs"), "1", &ran.answer.status.to_string());
+    }
+    room.compare_file(&what, Some(b"a file that was there"), &tree);
+    room.compare_file(&what, None, &beside);
+}
+
+/// A file in either order, its text, and the file of that: the first file, big-endian.
+fn check_file(options: &Options, maketree: &str, room: &Room, seed: u64) {
+    let mut dice = Dice::new(seed);
+    let tree = random_tree(&mut dice);
+    let order = dice.pick(&[Order::Big, Order::Little]);
+    let what = format!("seed {seed}, file to text to file");
+    let ran = run(&options.replay, &[&room.put("tree", &file_of(&tree, order))]);
+    room.compare(&what, &Answer::done(tree.print()), &ran);
+    let (text, made) = (room.put("text", ran.answer.printed.as_bytes()), room.free("made"));
+    room.compare(&what, &Answer::done(String::new()), &run(maketree, &[&text, &made]));
+    room.compare_file(&what, Some(&file_of(&tree, Order::Big)), &made);
+    assert_eq!(read(&fs::read(made).expect("it was compared")), Ok(tree));
 }
 
 /// The case of a seed, with the seed in its name.
@@ -100,22 +201,54 @@ fn seeded(options: &Options, seed: u64) -> Case {
     Case { name: format!("seed {seed}, {}", case.name), ..case }
 }
 
-fn main() {
-    let options = options();
-    let folder = std::env::temp_dir().join(format!("driver-{}", std::process::id()));
-    std::fs::create_dir_all(&folder).expect("make a temporary folder");
-    let seeds = options.seed..options.seed + options.runs;
-    let told = by_hand().into_iter().chain(more_by_hand()).chain(edges()).chain(texts());
-    let (mut cases, mut seen) = (0, BTreeMap::<String, usize>::new());
-    for case in told.chain(seeds.map(|seed| seeded(&options, seed))) {
-        cases += 1;
-        for line in check(&options, &folder, &case).lines() {
-            *seen.entry(sort_of_answer(line)).or_default() += 1;
+fn seeded_text(seed: u64) -> TextCase {
+    let case = text_case(seed);
+    TextCase { name: format!("seed {seed}, {}", case.name), ..case }
+}
+
+/// How often each sort of line was seen.
+#[derive(Default)]
+struct Seen {
+    cases: usize,
+    sorts: BTreeMap<String, usize>,
+}
+
+impl Seen {
+    fn add(&mut self, printed: &str) {
+        self.cases += 1;
+        for line in printed.lines() {
+            *self.sorts.entry(sort_of_answer(line)).or_default() += 1;
         }
     }
-    std::fs::remove_dir_all(&folder).expect("remove the temporary folder");
-    println!("{cases} cases agree, {} of them seeded; {} lines", options.runs, seen.values().sum::<usize>());
-    for (sort, count) in seen {
-        println!("{count:8} {sort}");
+
+    fn print(&self, what: &str, runs: u64) {
+        for (sort, count) in &self.sorts {
+            println!("{count:8} {sort}");
+        }
+        println!("{} {what} agree, {runs} of them seeded; {} lines", self.cases, self.sorts.values().sum::<usize>());
     }
+}
+
+fn main() {
+    let options = options();
+    let room = Room::new();
+    let seeds = options.seed..options.seed + options.runs;
+    let told = by_hand().into_iter().chain(more_by_hand()).chain(edges()).chain(texts()).chain(more_texts());
+    let mut seen = Seen::default();
+    for case in told.chain(seeds.clone().map(|seed| seeded(&options, seed))) {
+        seen.add(&check(&options, &room, &case));
+    }
+    seen.print("cases", options.runs);
+    if let Some(maketree) = &options.maketree {
+        let mut seen = Seen::default();
+        for (turn, case) in text_corpus().into_iter().chain(seeds.clone().map(seeded_text)).enumerate() {
+            seen.add(&check_text(&options, maketree, &room, &case));
+            if turn % 8 == 0 {
+                check_taken(maketree, &room, &case);
+            }
+        }
+        seeds.for_each(|seed| check_file(&options, maketree, &room, seed));
+        seen.print("texts", options.runs);
+    }
+    fs::remove_dir_all(&room.folder).expect("remove the temporary folder");
 }

@@ -124,7 +124,7 @@ fn main() {
     put("studio-little.tree", &file_of(&studio_tree(), Order::Little));
     put("studio.txt", studio_tree().print().as_bytes());
     put("studio.calls", calls.as_bytes());
-    put("studio.out", replay(&tree_file, calls.as_bytes()).as_bytes());
+    put("studio.out", replay(&tree_file, calls.as_bytes()).printed.as_bytes());
     put("damaged-cut.tree", &cut());
     put("damaged-share.tree", &no_share());
     put("damaged-fit.tree", &too_much());

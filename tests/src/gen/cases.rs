@@ -3,11 +3,12 @@
 use super::damage::{damaged_file, edge_files};
 use super::dice::Dice;
 use super::runs::{disciplined_run, full_run, late_run, loose_run, same_tick_run, Run};
-use super::text::text_files;
+use super::text::{more_text_files, text_files};
 use super::trees::{random_tree, tree_a};
 use crate::calls::{replay, show_tree};
 use crate::curves::Curve;
 use crate::file::{file_of, Order};
+use crate::lines::Answer;
 use crate::tree::{Class, Tree};
 use std::borrow::Borrow;
 
@@ -23,8 +24,8 @@ impl Case {
         Case { name: name.into(), tree_file, calls: Some(calls.into()) }
     }
 
-    /// What the model prints for it.
-    pub fn printed(&self) -> String {
+    /// What the model answers to it.
+    pub fn answer(&self) -> Answer {
         match &self.calls {
             Some(calls) => replay(&self.tree_file, calls),
             None => show_tree(&self.tree_file),
@@ -81,7 +82,20 @@ pub fn case(seed: u64, calls: usize) -> Case {
         19..=22 => ("same-tick", same_tick_run(dice, calls)),
         _ => ("loose", loose_run(dice, calls)),
     };
-    case_of_run(dice, name, &run)
+    let mut case = case_of_run(dice, name, &run);
+    if dice.chance(1, 20) {
+        case.calls = case.calls.map(|calls| start_misplaced(dice, &calls));
+    }
+    case
+}
+
+/// The calls with a line more, `start` again, or with one of them before it.
+fn start_misplaced(dice: &mut Dice, calls: &[u8]) -> Vec<u8> {
+    let mut lines: Vec<&[u8]> = calls.split_inclusive(|&byte| byte == b'\n').collect();
+    let at = dice.below(lines.len() as u64) as usize;
+    let (at, line) = dice.pick(&[(at, &b"start 5\n"[..]), (0, b"depart 5\n"), (0, b"arrive 5 1 60\n")]);
+    lines.insert(at, line);
+    lines.concat()
 }
 
 /// The files at the edge of each rule, each with a few calls.
@@ -190,10 +204,19 @@ pub fn more_by_hand() -> Vec<Case> {
     ]
 }
 
+fn texts_of(files: Vec<(&'static str, Vec<u8>)>) -> Vec<Case> {
+    let tree_file = file_of(&tree_a(), Order::Big);
+    files.into_iter().map(|(name, calls)| Case::new(format!("text-{name}"), tree_file.clone(), calls)).collect()
+}
+
 /// Files of calls at the edge of each rule on lines.
 pub fn texts() -> Vec<Case> {
-    let tree_file = file_of(&tree_a(), Order::Big);
-    text_files().into_iter().map(|(name, calls)| Case::new(format!("text-{name}"), tree_file.clone(), calls)).collect()
+    texts_of(text_files())
+}
+
+/// More of them, which stand last in the corpus.
+pub fn more_texts() -> Vec<Case> {
+    texts_of(more_text_files())
 }
 
 /// Tree files to be printed alone: right ones, and some for each refusal.
@@ -238,6 +261,7 @@ pub fn corpus(seed: u64) -> Vec<Case> {
     cases.extend(texts());
     cases.extend(trees_alone(dice));
     cases.extend(more_by_hand());
+    cases.extend(more_texts());
     cases
 }
 
@@ -249,6 +273,7 @@ pub fn sort_of_answer(line: &str) -> String {
         ["refused", _] | ["none", "waits"] => line.to_string(),
         ["packet", .., "rule", "fair"] => "fair without curve".to_string(),
         ["packet", .., "rule", rule, "eligible", _, "deadline", _] => rule.to_string(),
+        ["line", _, "class", _, "comes", "next"] => "class comes next".to_string(),
         ["line", _, ref why @ ..] => why.join(" "),
         [first, ..] => first.to_string(),
         [] => String::new(),

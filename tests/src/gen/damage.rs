@@ -23,7 +23,7 @@ pub fn damaged_file(dice: &mut Dice, number: u32) -> Vec<u8> {
 }
 
 /// Numbers near the limits of all fields.
-fn odd_number(dice: &mut Dice) -> u32 {
+pub fn odd_number(dice: &mut Dice) -> u32 {
     let any = dice.roll() as u32;
     dice.pick(&[0, 1, 2, 3, 4, 11, 12, 13, 16, 20, 24, 63, 64, 65, 65_535, 65_536, 65_537, 1_048_576, 1_048_577, HALF_ROUND, u32::MAX, any])
 }
@@ -103,7 +103,7 @@ fn damage_bytes(dice: &mut Dice, bytes: &mut Vec<u8>, number: u32) {
 }
 
 /// A chain to depth 9 or more somewhere in the tree.
-fn too_deep(dice: &mut Dice) -> Tree {
+pub fn too_deep(dice: &mut Dice) -> Tree {
     let aside = dice.between(0, 5);
     let chain = dice.between(8, 12);
     let mut classes: Vec<Class> = (0..aside).map(|_| Class { parent: 0, share: 5, curve: Curve::None }).collect();
@@ -117,7 +117,7 @@ fn too_deep(dice: &mut Dice) -> Tree {
 }
 
 /// A curve on a class with children.
-fn curve_inside(dice: &mut Dice) -> Tree {
+pub fn curve_inside(dice: &mut Dice) -> Tree {
     let mut tree = random_tree(dice);
     let inside = dice.between(1, tree.count() as u32 - 1);
     tree.classes[inside as usize].curve = Curve::Straight { m: dice.pick(&[1, 65_536]) };
@@ -128,7 +128,7 @@ fn curve_inside(dice: &mut Dice) -> Tree {
 }
 
 /// A tight fit with one part too many.
-fn too_much(dice: &mut Dice) -> Tree {
+pub fn too_much(dice: &mut Dice) -> Tree {
     let mut tree = any_tree(dice);
     tighten(dice, &mut tree);
     let candidates = curved(&tree);
@@ -254,7 +254,7 @@ fn flat(curves: &[Curve]) -> Tree {
 }
 
 /// Whole trees at the edge of the rules on counts, depth, place of curves and fit.
-fn edge_trees() -> Vec<(&'static str, Tree)> {
+pub fn edge_trees() -> Vec<(&'static str, Tree)> {
     let straight = |m| Curve::Straight { m };
     let front = |m1, d, m2| Curve::FrontLoaded { m1, d, m2 };
     let none = Curve::None;

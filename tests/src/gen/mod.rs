@@ -1,4 +1,4 @@
-//! A seeded generator of trees, files, damaged files and runs of calls.
+//! A seeded generator of trees, their files and texts, damaged ones among them, and runs of calls.
 
 mod cases;
 mod damage;
@@ -6,12 +6,14 @@ mod dice;
 mod runs;
 mod text;
 mod trees;
+mod treetexts;
 
-pub use cases::{by_hand, case, corpus, edges, more_by_hand, sort_of_answer, texts, Case};
+pub use cases::{by_hand, case, corpus, edges, more_by_hand, more_texts, sort_of_answer, texts, Case};
 pub use damage::damaged_file;
 pub use dice::Dice;
 pub use runs::{disciplined_run, late_run, loose_run, same_tick_run, Run};
 pub use trees::{random_curve, random_tree, tree_a};
+pub use treetexts::{text_case, text_corpus, TextCase};
 
 #[cfg(test)]
 mod tests;

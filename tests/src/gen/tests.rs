@@ -28,9 +28,9 @@ fn trees_are_right_and_varied() {
 #[test]
 fn cases_reach_every_answer() {
     let mut seen: BTreeMap<String, usize> = BTreeMap::new();
-    for seed in 0..400 {
+    for seed in 0..500 {
         let case = case(seed, 120);
-        for line in case.printed().lines() {
+        for line in case.answer().printed.lines() {
             *seen.entry(sort_of_answer(line)).or_default() += 1;
         }
     }
@@ -38,7 +38,7 @@ fn cases_reach_every_answer() {
     for number in 1..=10 {
         assert!(seen.contains_key(&format!("tree refused {number}")), "{number}: {seen:?}");
     }
-    for sort in ["refused 11", "refused 12", "refused 13", "refused 14", "refused 15", "none waits", "real-time", "fair", "fair without curve", "accepted", "not a call", "number past 32 bits"] {
+    for sort in ["refused 11", "refused 12", "refused 13", "refused 14", "refused 15", "none waits", "real-time", "fair", "fair without curve", "accepted", "not a call", "number past 32 bits", "start comes first", "started already"] {
         assert!(seen.contains_key(sort), "{sort}: {seen:?}");
     }
 }
@@ -66,7 +66,7 @@ fn damage_mostly_gives_the_refusal_aimed_at() {
 /// At the edge of each rule the refusals come with the classes that they must name.
 #[test]
 fn edges_are_where_they_should_be() {
-    let answers: Vec<String> = edges().iter().map(|case| case.printed().lines().next().unwrap().to_string()).collect();
+    let answers: Vec<String> = edges().iter().map(|case| case.answer().printed.lines().next().unwrap().to_string()).collect();
     let count = |sort: &str| answers.iter().filter(|answer| answer.starts_with(sort)).count();
     for number in 1..=10 {
         assert!(count(&format!("refused {number} class")) >= 2, "{number}");
@@ -87,7 +87,7 @@ fn marks_by_hand() {
     let classes = |name: &str| {
         let cases: Vec<Case> = by_hand().into_iter().chain(more_by_hand()).collect();
         let case = cases.iter().find(|case| case.name == name).unwrap();
-        let printed = case.printed();
+        let printed = case.answer().printed;
         let class = |line: &str| line.strip_prefix("packet class ").and_then(|rest| rest[..1].parse::<u32>().ok());
         printed.lines().filter_map(class).collect::<Vec<u32>>()
     };
@@ -96,4 +96,46 @@ fn marks_by_hand() {
     assert_eq!(classes("mark-kept"), [3, 2, 3, 2, 2, 2, 2, 1, 2, 4]);
     assert_eq!(classes("ancestor-active").last(), Some(&2));
     assert_eq!(classes("share-past-32-bits")[23..], [2, 2, 1]);
+}
+
+/// Every answer to a text turns up, and files are written in all spellings.
+#[test]
+fn texts_reach_every_answer() {
+    let mut seen: BTreeMap<String, usize> = BTreeMap::new();
+    let mut count = |sort: &str| *seen.entry(sort.to_string()).or_default() += 1;
+    for seed in 0..1_000 {
+        let case = text_case(seed);
+        let (answer, file) = case.answer();
+        answer.printed.lines().for_each(|line| count(&sort_of_answer(line)));
+        if let Some(file) = file {
+            count(if read(&file).unwrap().print().as_bytes() == case.text { "written, and it was as printed" } else { "written, of another spelling" });
+        }
+        assert_eq!(text_case(seed).text, case.text);
+    }
+    println!("{seen:?}");
+    for sort in ["written, and it was as printed", "written, of another spelling", "not a class", "number past 32 bits", "tree comes first", "class comes next"] {
+        assert!(seen.get(sort).is_some_and(|&count| count >= 10), "{sort}: {seen:?}");
+    }
+    for number in [4, 7, 8, 9, 10] {
+        assert!(seen.get(&format!("tree refused {number}")).is_some_and(|&count| count >= 5), "{number}: {seen:?}");
+    }
+}
+
+/// The texts by hand have names of their own, and both ends come.
+#[test]
+fn texts_by_hand() {
+    let cases = text_corpus();
+    let answer = |name: &str| {
+        let found: Vec<&TextCase> = cases.iter().filter(|case| case.name == name).collect();
+        assert_eq!(found.len(), 1, "{name}");
+        found[0].answer().0.printed
+    };
+    assert_eq!(answer("tree-a"), "");
+    assert_eq!(answer("longest"), "");
+    assert_eq!(answer("long-number"), "");
+    assert_eq!(answer("no-head-wrong"), "line 1: not a class\n");
+    assert_eq!(answer("classes-65-then-wrong"), "refused 4 class 0\n");
+    assert_eq!(answer("classes-64-then-number"), "line 66: class 64 comes next\n");
+    assert_eq!(answer("wrong-after-rule"), "line 4: not a class\n");
+    assert!(cases.iter().all(|case| case.text.len() <= 65_536));
 }

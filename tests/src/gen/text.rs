@@ -94,3 +94,17 @@ fn starts() -> Vec<(&'static str, Vec<u8>)> {
 pub fn text_files() -> Vec<(&'static str, Vec<u8>)> {
     [numbers(), ends(), bytes(), starts()].concat()
 }
+
+/// Start first, and once: what stands before it is judged by itself first, and so is a second one. Wrong words before it.
+pub fn more_text_files() -> Vec<(&'static str, Vec<u8>)> {
+    vec![
+        ("before-start-wrong", b"leave 5\nstart 5\n".to_vec()),
+        ("before-start-form", b"arrive 5 1\nstart 5\n".to_vec()),
+        ("before-start-past", b"arrive 5 1 4294967296\nstart 5\n".to_vec()),
+        ("before-start-late", b"# so\n\n \ndepart 5 # now\nstart 5\n".to_vec()),
+        ("before-start-no-last-end", b"depart 5".to_vec()),
+        ("second-start-late", b"start 5\n\narrive 6 1 500\ndepart 7\n# again\nstart 7\ndepart 8\n".to_vec()),
+        ("second-start-wrong", b"start 5\nstart\n".to_vec()),
+        ("second-start-no-last-end", b"start 5\nstart 5".to_vec()),
+    ]
+}
