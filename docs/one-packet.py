@@ -9,6 +9,9 @@ import sys
 from collections import namedtuple
 from pathlib import Path
 
+import curves
+from curves import dot, least, line, text
+
 REPO = Path(__file__).resolve().parent.parent
 LEAF, NUMBER = 3, 7  # the packet that the page follows: of speech, number 7
 NAMES = {3: "speech", 4: "remote control", 5: "picture", 6: "nightly copies", 7: "mail"}
@@ -62,30 +65,12 @@ def read_calls():
 
 def amount(c, t):
     """S(t) in parts."""
-    if c.kind == 1:
-        return c.numbers[0] * t
-    if c.kind == 2:
-        first, bend, last = c.numbers
-        return first * min(t, bend) + last * max(t - bend, 0)
-    bend, rate = c.numbers
-    return rate * max(t - bend, 0)
+    return curves.amount(KINDS[c.kind], c.numbers, t)
 
 
 def standing(c, piece, t):
     """Piece k at tick t is 65,536·ck + S(t − bk)."""
     return 65536 * piece.sent + amount(c, max(t - piece.start, 0))
-
-
-def least(start, holds):
-    """The least whole t, not before start, at which it holds; once it holds it goes on to."""
-    step = 1
-    while not holds(start + step):
-        step *= 2
-    low, high = start, start + step
-    while low < high:
-        middle = (low + high) // 2
-        low, high = (low, middle) if holds(middle) else (middle + 1, high)
-    return low
 
 
 def reached(c, pieces, count, later=0):
@@ -195,18 +180,6 @@ class Panel:
 
     def path(self, points, kind):
         return f'<path class="{kind}" d="M' + " L".join(f"{self.x(t)} {self.y(c)}" for t, c in points) + '"/>'
-
-
-def line(x1, y1, x2, y2, kind):
-    return f'<line class="{kind}" x1="{x1}" y1="{y1}" x2="{x2}" y2="{y2}"/>'
-
-
-def text(x, y, words, kind="", anchor="start"):
-    return f'<text class="{kind}" x="{x}" y="{y}" text-anchor="{anchor}">{words}</text>'
-
-
-def dot(x, y, kind):
-    return f'<circle class="{kind}" cx="{x}" cy="{y}" r="4"/>'
 
 
 def box(x, y, width, height, kind):
