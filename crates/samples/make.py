@@ -25,20 +25,21 @@ TREE_A = [ROOT, (0, 16384, 2, 32768, 2000, 16384), (0, 49152, 3, 2000, 32768)]
 NAMES = {0: "none", 1: "straight", 2: "front-loaded", 3: "delayed"}
 
 def shown(classes, order=">"):
-    """The tree, and no class beyond the last number there can be; then its file is written big-endian with more room than it takes and with just so much, 17 with a byte less, and 7 where the last class has no share."""
+    """The tree, and no class beyond the last number there can be; read in bursts, its file is written big-endian with more room than it takes and with just so much, 17 with a byte less, and 7 where the last class has no share."""
     lines = ["tree"]
     for i, c in enumerate(classes):
         numbers = "".join(f" {n}" for n in c[3:])
         lines.append(f"class {i} parent {c[0]} share {c[1]} {NAMES[c[2]]}{numbers}")
     written = f"written {len(pack(words_of(classes)))}, as the file{'' if order == '>' else ' in the other order'}, none beyond"
-    return lines + ["at 64: parent 0 share 0", written, written] + unwritten(17) + unwritten(7, len(classes) - 1)
+    return lines + ["at 64: parent 0 share 0", "in bursts: right", written, written] + unwritten(17) + unwritten(7, len(classes) - 1)
 
 def unwritten(number, cls=0):
     return [f"refused {number} class {cls}", "none written"]
 
 def refused(number, cls=0):
-    """A refusal gives a tree of no classes, which the writer refuses with 4."""
-    return [f"refused {number} class {cls}"] + unwritten(4)
+    """The same refusal in bursts. It gives a tree of no classes, which the writer refuses with 4."""
+    refusal = f"refused {number} class {cls}"
+    return [refusal, f"in bursts: {refusal}"] + unwritten(4)
 
 chain9 = [ROOT] + [(i, 1, 0) for i in range(0, 9)]          # class 9 has depth 9
 chain8 = [ROOT] + [(i, 1, 0) for i in range(0, 8)]          # class 8 has depth 8
@@ -85,6 +86,18 @@ sample("curve_above_children", pack(words_of([ROOT, (0, 1, 1, 1), (1, 1, 0)])), 
 sample("does_not_fit", pack(words_of([ROOT, (0, 1, 1, 32769), (0, 1, 1, 32768)])), refused(10))
 sample("fits_by_last_slopes_only", pack(words_of([ROOT, (0, 1, 2, 65536, 1, 1), (0, 1, 1, 1)])), refused(10))
 sample("depth_before_fit", pack(words_of(chain9[:-1] + [(8, 1, 1, 65536), (0, 1, 1, 1)])), refused(8, 9))
+
+# longer than any right file, in the order of the refusals
+most = words_of(full)
+longer = words_of([(0, 65536, 1, 1)] + full[1:])            # a root of 16 bytes: 2,056 in all
+sample("longer_without_the_mark", bytes(4000), refused(2))
+sample("longer_version_2", pack(longer[:1] + [2] + longer[2:]), refused(3))
+sample("longer_count_65", pack(longer[:2] + [65] + longer[3:]), refused(4))
+sample("longest_and_a_byte", pack(most) + b"\0", refused(5))
+sample("longer_cut_by_one", pack(longer)[:-1], refused(5))
+sample("longer_end_before_the_total", pack(most[:3] + [most[3] + 4] + most[4:] + [0]), refused(6, 63))
+sample("longer_root_with_curve", pack(longer), refused(7, 0))
+sample("longer_root_with_curve_little", pack(longer, "<"), refused(7, 0))
 
 for old in (out / "data").iterdir():
     old.unlink()

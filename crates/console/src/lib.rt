@@ -1,5 +1,9 @@
-// What the programs write and read: lines to standard output, whole files, arguments, and the status that a command ends
-// with. No promise can say what a file or a screen then holds, so these stay small; what is written is `print`'s.
+// What the programs write and read: lines to standard output, whole files, class-tree files of any length, and the status
+// that a command ends with. No promise can say what a file or a screen then holds, so these stay small; what is written is
+// `print`'s.
+mod trees;
+
+pub use trees::read_tree;
 ghost use Rattle.print.specs.Promises.{Within};
 use libc::STDERR_FILENO;
 use libc::STDOUT_FILENO;

@@ -5,3 +5,4 @@ pub mod KindTable
 pub mod Orders
 pub mod Places
 pub mod Prefix
+pub mod Fronts

@@ -6,7 +6,9 @@ use mathlib.Core.List.{List}
 use lib.ListN.{length}
 use Rattle.tree.proofs.Rule.{AtMostOne, rule-one, lowest-one, lowest-none, whole-one, whole-none}
 use Rattle.file.specs.Format.{HeaderChecks, BodyChecks, FileJudged, treeOf, treeBy, ReadsAs}
+use Rattle.file.specs.Fronts.{AtHand, EveryFile}
 use Rattle.file.specs.declared.Reading.{Reading}
+use Rattle.file.proofs.ReadLaws.Fronts.{front-some}
 
 -- one verdict
 pub verdict-one : (bytes : List ℕ) (given : ℕ) → AtMostOne (FileJudged bytes given)
@@ -30,3 +32,10 @@ read-one file r s p q =
     let same : r .verdict ≡ s .verdict = verdict-one file (length file) (r .verdict) (s .verdict) (p .judged) (q .judged) in
     let tree : r .tree ≡ s .tree = p .given ∙ (ap (treeBy (treeOf file)) same ∙ sym (q .given)) in
     λ i. record { verdict = same i; tree = tree i }
+
+-- so has reading by the bytes at hand: there is a file of which they are
+pub read-front-one : (bytes : List ℕ) (given : ℕ) → AtHand bytes given → (r s : Reading) → EveryFile bytes given (λ file. ReadsAs file (r .verdict) (r .tree))
+    → EveryFile bytes given (λ file. ReadsAs file (s .verdict) (s .tree)) → r ≡ s
+read-front-one bytes given hand r s p q =
+    let some = front-some bytes given hand in
+    read-one (some .file) r s (p (some .file) (some .front)) (q (some .file) (some .front))

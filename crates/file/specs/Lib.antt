@@ -2,5 +2,6 @@
 pub mod Format
 pub mod Writing
 pub mod Smallest
+pub mod Fronts
 pub mod Theorems
 pub mod Steps

@@ -11,6 +11,7 @@ use Rattle.tree.specs.declared.Class.{Class}
 use Rattle.tree.specs.declared.Verdict.{Verdict}
 use Rattle.tree.specs.declared.Verdict.the-variants.{Right}
 use Rattle.file.specs.Format.{wordAt, orderOf, countOf, RightTotal, RightLength, HeaderChecks, InPlace, rightKind}
+use Rattle.file.specs.Fronts.{Counts}
 use Rattle.curve.specs.Codec.{kindCurve}
 use Rattle.curve.specs.Curves.{Within}
 use Rattle.file.specs.declared.Order.{Order}
@@ -39,6 +40,10 @@ Passed v = v ≡ Right
 
 abbrev pub HeaderJudged : List ℕ → ℕ → Verdict → Type 0
 HeaderJudged file given = HeaderChecks file given Passed
+
+-- the verdict of the header's checks, whichever the length is of which so many bytes were counted
+abbrev pub HeaderCounted : List ℕ → ℕ → Verdict → Type 0
+HeaderCounted bytes given v = (long : ℕ) → Counts given long → HeaderJudged bytes long v
 
 -- the verdict of check 6 alone
 abbrev pub PlacesJudged : List ℕ → Verdict → Type 0

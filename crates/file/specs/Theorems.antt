@@ -5,12 +5,16 @@ use mathlib.Core.Path.{_≡_}
 use mathlib.Core.List.{List, [], _∷_}
 use lib.ListN.{length, take}
 use Rattle.tree.specs.declared.Tree.{Tree}
-use Rattle.tree.specs.declared.Verdict.the-variants.{Right}
+use Rattle.tree.specs.declared.Refusal.{Refusal}
+use Rattle.tree.specs.declared.Verdict.{Verdict}
+use Rattle.tree.specs.declared.Verdict.the-variants.{Right, Refused}
+use Rattle.tree.specs.Numbers.{numberOf}
 use Rattle.tree.specs.Trees.{SameTree}
 use Rattle.tree.specs.Rules.{RightTree}
 use Rattle.file.specs.declared.Order.{Order}
 use Rattle.file.specs.declared.writer.Written.{Written}
 use Rattle.file.specs.Format.{Marked, ReadsAs}
+use Rattle.file.specs.Fronts.{mostFileBytes}
 use Rattle.file.specs.Writing.{bytesOf, fileWords, fileIn, Writes}
 use Rattle.file.specs.Smallest.{smallestWords, smallestTree}
 
@@ -42,10 +46,6 @@ abbrev pub FilesOne : Type 0
 FilesOne =
     (order : Order) (f g : List ℕ) (t u : Tree) → AllBytes f → AllBytes g → Marked order f → Marked order g → ReadsAs f Right t → ReadsAs g Right u → SameTree t u → f ≡ g
 
--- "the 2,052 bytes of the longest right file" (document 02, 1)
-abbrev pub mostFileBytes : ℕ
-mostFileBytes = 2052
-
 -- no right tree's file is longer: `file-most`
 abbrev pub FileMost : Type 0
 FileMost = (order : Order) (tree : Tree) → RightTree tree → length (fileIn order tree) ≤ mostFileBytes
@@ -53,6 +53,19 @@ FileMost = (order : Order) (tree : Tree) → RightTree tree → length (fileIn o
 -- no file that reads as a tree is longer: `read-most`
 abbrev pub ReadMost : Type 0
 ReadMost = (file : List ℕ) (tree : Tree) → ReadsAs file Right tree → length file ≤ mostFileBytes
+
+-- a refusal that a longer file can have: 2 to 6, or 7 at the root
+pub record LongRefusal (verdict : Verdict) : Type 0 where
+  pub why : Refusal
+  pub class : ℕ
+  pub is : verdict ≡ Refused why class
+  pub least : 2 ≤ numberOf why
+  pub most : numberOf why ≤ 7
+  pub root : numberOf why ≡ 7 → class ≡ 0
+
+-- a longer file has such a one (document 02, 1: "A longer file is refused as 01 refuses it"): `long-refused`
+abbrev pub LongRefused : Type 0
+LongRefused = (file : List ℕ) (verdict : Verdict) (tree : Tree) → ReadsAs file verdict tree → mostFileBytes < length file → LongRefusal verdict
 
 -- a right tree whose file is that long
 pub record Longest (order : Order) : Type 0 where

@@ -6,12 +6,13 @@ mod header;
 mod words;
 
 ghost use mathlib.Core.Path.{_≡_};
-ghost use lib.ListN.{length};
 ghost use Rattle.tree.specs.Trees.{emptyTree};
 ghost use Rattle.tree.specs.Rules.{Judged};
 ghost use Rattle.tree.specs.declared.Verdict.the-variants.{Right, Refused};
 ghost use Rattle.file.specs.Format.{ReadsAs, treeBy};
-ghost use Rattle.file.specs.Steps.{HeaderJudged};
+ghost use Rattle.file.specs.Fronts.{AtHand, EveryFile};
+ghost use Rattle.file.specs.Steps.{Opened, HeaderCounted, AllPlaced};
+use crate::Order;
 use crate::Reading;
 use tree::Refusal;
 use tree::Tree;
@@ -21,23 +22,44 @@ use tree::Verdict;
 pub fn read(file: &[u8]) -> Reading
     ensures { λ r. ⌜ ReadsAs (now (file .entry)) (r .verdict) (r .tree) ⌝ }
 {
-    match header::header(file) {
+    read_front(file, file.len())
+}
+
+// What a file reads as, by the bytes at hand and the number of bytes given.
+pub fn read_front(front: &[u8], given: usize) -> Reading
+    requires { ⌜ AtHand (now front) given ⌝ }
+    ensures { λ r. ⌜ EveryFile (now (front .entry)) given (λ file. ReadsAs file (r .verdict) (r .tree)) ⌝ }
+{
+    match header::header(front, given) {
         Verdict::Refused { why, class } => refused(why, class),
-        Verdict::Right => opened(file),
+        Verdict::Right => opened(front, given),
     }
 }
 
 // A file whose header has passed its checks.
-fn opened(file: &[u8]) -> Reading
-    requires { ⌜ HeaderJudged (now file) (length (now file)) Right ⌝ }
-    ensures { λ r. ⌜ ReadsAs (now (file .entry)) (r .verdict) (r .tree) ⌝ }
+fn opened(front: &[u8], given: usize) -> Reading
+    requires { ⌜ AtHand (now front) given × HeaderCounted (now front) given Right ⌝ }
+    ensures { λ r. ⌜ EveryFile (now (front .entry)) given (λ file. ReadsAs file (r .verdict) (r .tree)) ⌝ }
 {
-    let order = words::order_of(file);
-    let count = words::word(order, file, 8);
-    match contents::places(order, count, file) {
+    let order = words::order_of(front);
+    let count = words::word(order, front, 8);
+    match contents::places(order, count, front, given) {
         Verdict::Refused { why, class } => refused(why, class),
-        Verdict::Right => judged(bodies::tree_of(order, count, file)),
+        Verdict::Right => placed(order, count, front, given),
     }
+}
+
+// A file whose bodies lie in their places. Where it goes on past the bytes at hand, the root's body is longer than a root's can be:
+// else the file would be no longer than the longest right one.
+fn placed(order: Order, count: u32, front: &[u8], given: usize) -> Reading
+    requires { ⌜ AtHand (now front) given × HeaderCounted (now front) given Right ⌝ }
+    requires { ⌜ Opened (now front) given order count × AllPlaced (now front) ⌝ }
+    ensures { λ r. ⌜ EveryFile (now (front .entry)) given (λ file. ReadsAs file (r .verdict) (r .tree)) ⌝ }
+{
+    if front.len() < given {
+        return refused(Refusal::WrongBody, 0);
+    }
+    judged(bodies::tree_of(order, count, front))
 }
 
 // The tree, where it is right.

@@ -10,7 +10,7 @@
  * - no other thread uses the arrays during a call.
  *
  * One tick is the time the link takes for one byte. A stamp is a 32-bit counter of ticks that comes round to zero; a start takes the first one.
- * start, write, arrive and depart answer 0, or the number of the refusal:
+ * start, end, write, arrive and depart answer 0, or the number of the refusal:
  *    1 file under 16 bytes                    7 a class's parent, share, kind or numbers  13 64 already wait in that leaf
  *    2 no mark at the file's start            8 depth over 8                              14 2^31 ticks or more since the last kept stamp
  *    3 version is not 1                       9 real-time curve on a class with children  15 clock would pass 2^40
@@ -29,8 +29,8 @@
 extern "C" {
 #endif
 
-/* The state's two arrays, and the bytes of the longest right class-tree file. */
-enum { HFSC_WORDS = 1536, HFSC_LENGTHS = 4096, HFSC_FILE = 2052 };
+/* The state's two arrays, the bytes of the longest right class-tree file, and what is kept of a file that comes in bursts. */
+enum { HFSC_WORDS = 1536, HFSC_LENGTHS = 4096, HFSC_FILE = 2052, HFSC_KEPT = HFSC_FILE };
 
 /* Starts from a class-tree file of so many bytes. On a refusal `fault` is the class that it names, else 0. */
 uint32_t hfsc_start_file(uint64_t words[HFSC_WORDS], uint16_t lengths[HFSC_LENGTHS], const uint8_t *file, size_t bytes, uint32_t stamp,
@@ -41,6 +41,29 @@ uint32_t hfsc_start_file(uint64_t words[HFSC_WORDS], uint16_t lengths[HFSC_LENGT
  * The words marked - are not looked at, nor are words past the last class. A word that is not there counts as 0. */
 uint32_t hfsc_start_words(uint64_t words[HFSC_WORDS], uint16_t lengths[HFSC_LENGTHS], const uint32_t *tree, size_t count, uint32_t stamp,
                           uint32_t *fault);
+
+/* A class-tree file that comes in bursts, as over a modem. Begin; offer each burst as it comes, in order, of any size; and when the file has ended
+ * either tell the end, or start, which tells it too. However the file was cut, and however long it is, the answer is the one that the whole file
+ * gets. `kept` and `seen` are the host's memory: begin fills both, whatever they held, and between the calls nobody else writes to them. Nothing
+ * else is kept, so that several files may come at once, each with memory of its own.
+ * `seen[0]` counts the bytes offered, up to 2^32, and `seen[1]` is 1 once the end was told, 0 before; any number but 0 counts as
+ * told, and is 1 after the next call. */
+
+/* Before the first byte. */
+void hfsc_bursts_begin(uint8_t kept[HFSC_KEPT], uint64_t seen[2]);
+
+/* The next burst, of so many bytes; one of none changes nothing, and does not tell the end (its pointer is not null either). Before the end was
+ * told the answer is 0: nothing yet. After it the burst changes nothing, and the answer is what the end was answered, until a begin; the class
+ * comes from the end, told again. */
+uint32_t hfsc_bursts_offer(uint8_t kept[HFSC_KEPT], uint64_t seen[2], const uint8_t *burst, size_t bytes);
+
+/* The file has ended: 0, or the number of its refusal, 1 to 10, with the class that it names in `fault`, else 0. Told again it answers the same.
+ * So a host that runs can hear of a refusal before it gives up its state for a start. */
+uint32_t hfsc_bursts_end(const uint8_t kept[HFSC_KEPT], uint64_t seen[2], uint32_t *fault);
+
+/* The file has ended, whether that was told or not: starts from it, as hfsc_start_file does from the whole file. */
+uint32_t hfsc_start_bursts(uint64_t words[HFSC_WORDS], uint16_t lengths[HFSC_LENGTHS], const uint8_t kept[HFSC_KEPT], uint64_t seen[2],
+                           uint32_t stamp, uint32_t *fault);
 
 /* Writes the class-tree file of a tree of so many words, as hfsc_start_words takes them, to the front of `out`, which has room for so many
  * bytes. It asks for no state. On 0 the file is the first `total` bytes of `out`, the bytes after them are as they were, and `fault` is 0;

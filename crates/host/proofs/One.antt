@@ -3,11 +3,14 @@
 use Prim.Native.Nat.{ℕ}
 use mathlib.Core.Path.{_≡_, sym, ap, subst, _∙_}
 use mathlib.Core.List.{List}
-use Rattle.tree.specs.declared.Tree.{Tree}
+use lib.ListN.{length}
 use Rattle.file.specs.declared.Reading.{Reading}
 use Rattle.file.specs.declared.writer.Written.{Written}
 use Rattle.file.proofs.ReadOne.{read-one}
 use Rattle.file.proofs.WriteOne.{write-one}
+use Rattle.file.specs.Fronts.{mostFileBytes}
+use Rattle.bursts.specs.declared.Taken.{Taken}
+use Rattle.bursts.proofs.One.{holds-some, begun-one, offered-one, ended-one}
 use Rattle.rules.specs.declared.Arrival.{Arrival}
 use Rattle.rules.specs.declared.Arrival.the-variants.{Accepted}
 use Rattle.rules.specs.declared.Departure.{Departure}
@@ -23,9 +26,10 @@ use Rattle.sched.proofs.Asking.{head-times-one}
 use Rattle.host.specs.Numbers.{verdictNumber, verdictClass, writtenVerdict, writtenTotal, arrivalNumber, packetNumber, timesNumbers, departureNumber, departureNumbers}
 use Rattle.host.specs.Words.{treeSaid}
 use Rattle.host.specs.Promises.{StartTold, StartFileTold, WriteTold, ArriveTold, DepartTold, HeadTold, ArriveToldRefused, DepartToldRefused}
+use Rattle.host.specs.Bursts.{seenSaid, seenNumbers, toldNumber, toldClass, BeginTold, OfferTold, EndTold, StartBurstsTold}
 
 -- two values, each the number of one of two answers that are equal
-alike : {A B : Type 0} {x y : B} {a b : A} (f : A → B) → a ≡ b → x ≡ f a → y ≡ f b → x ≡ y
+pub alike : {A B : Type 0} {x y : B} {a b : A} (f : A → B) → a ≡ b → x ≡ f a → y ≡ f b → x ≡ y
 alike f same p q = p ∙ (ap f same ∙ sym q)
 
 pub start-words-one : (words : List ℕ) (stamp said said′ fault fault′ : ℕ) (m m′ l l′ : List ℕ)
@@ -60,6 +64,40 @@ write-told-one words old said said′ total total′ fault fault′ new new′ p
       alike (λ (a : Written). verdictClass (writtenVerdict a)) (one .0) (p .class) (q .class),
       one .1,
     )
+
+-- the numbers of what was seen, of what is told
+abbrev pub seenTold : Taken → List ℕ
+seenTold told = seenNumbers (told .seen)
+
+pub begin-told-one : (kept kept′ numbers numbers′ : List ℕ) → BeginTold kept numbers → BeginTold kept′ numbers′ → (kept ≡ kept′) × (numbers ≡ numbers′)
+begin-told-one kept kept′ numbers numbers′ p q =
+    let one = begun-one (p .seen) (q .seen) kept kept′ (p .begun) (q .begun) in
+    (one .1, alike seenNumbers (one .0) (p .noted) (q .noted))
+
+-- of a file that comes in bursts, with as many bytes lent as are kept
+module _ (kept numbers : List ℕ) (room : length kept ≡ mostFileBytes) where
+  pub offer-told-one : (burst : List ℕ) (said said′ : ℕ) (new new′ noted noted′ : List ℕ)
+      → OfferTold kept numbers burst said new noted → OfferTold kept numbers burst said′ new′ noted′
+      → (said ≡ said′) × (new ≡ new′) × (noted ≡ noted′)
+  offer-told-one burst said said′ new new′ noted noted′ p q =
+      let one = offered-one kept (seenSaid numbers) room burst (p .told) (q .told) new new′ (p .offered) (q .offered) in
+      (alike toldNumber (one .0) (p .number) (q .number), one .1, alike seenTold (one .0) (p .notes) (q .notes))
+
+  pub end-told-one : (said said′ fault fault′ : ℕ) (noted noted′ : List ℕ)
+      → EndTold kept numbers said fault noted → EndTold kept numbers said′ fault′ noted′
+      → (said ≡ said′) × (fault ≡ fault′) × (noted ≡ noted′)
+  end-told-one said said′ fault fault′ noted noted′ p q =
+      let one = ended-one kept (seenSaid numbers) room (p .told) (q .told) (p .end .ends) (q .end .ends) in
+      (alike toldNumber one (p .number) (q .number), alike toldClass one (p .class) (q .class), alike seenTold one (p .end .notes) (q .end .notes))
+
+  pub start-bursts-one : (stamp said said′ fault fault′ : ℕ) (noted noted′ m m′ l l′ : List ℕ)
+      → StartBurstsTold kept numbers stamp said fault noted m l → StartBurstsTold kept numbers stamp said′ fault′ noted′ m′ l′
+      → (said ≡ said′) × (fault ≡ fault′) × (noted ≡ noted′) × (m ≡ m′) × (l ≡ l′)
+  start-bursts-one stamp said said′ fault fault′ noted noted′ m m′ l l′ p q =
+      let some = holds-some kept (seenSaid numbers .count) room in
+      let one = start-file-one (some .file) stamp said said′ fault fault′ m m′ l l′ (p .starts (some .file) (some .holds)) (q .starts (some .file) (some .holds)) in
+      let ends = end-told-one said said′ fault fault′ noted noted′ (p .end) (q .end) in
+      (one .0, one .1, ends .2, one .2, one .3)
 
 module _ (m₀ l₀ : List ℕ) (reached : Reached m₀ l₀) where
   pub arrive-told-one : (stamp class bytes said said′ packet packet′ : ℕ) (m m′ l l′ : List ℕ)

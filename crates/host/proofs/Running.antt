@@ -13,12 +13,14 @@ use Rattle.tree.specs.Rules.{Judged}
 use Rattle.tree.specs.Trees.{emptyTree}
 use Rattle.tree.proofs.Verdicts.{refused-4}
 use Rattle.file.specs.Format.{ReadsAs}
+use Rattle.bursts.specs.Bursts.{Holds}
 use Rattle.rules.specs.Calls.{History}
 use Rattle.rules.specs.Answers as answers
 use Rattle.state.specs.State.{Shows}
 use Rattle.sched.specs.Runs.{Run, started, arrived, departed}
 use Rattle.sched.proofs.RunLaws.{run-shows, run-lawful}
 use Rattle.host.specs.Promises.{StartTold, StartFileTold, ArriveTold, DepartTold}
+use Rattle.host.specs.Bursts.{seenSaid, StartBurstsTold}
 use Rattle.host.proofs.Starting.{reads-judged}
 
 pub run-words : {tree : Tree} {stamp said fault : ℕ} {m l : List ℕ} → stamp < 2 ^ 32 → (told : StartTold tree stamp said fault m l) → Run m l (told .right .next)
@@ -46,6 +48,11 @@ module _ {file : List ℕ} {tree : Tree} {stamp : ℕ} {m l : List ℕ} (small :
 pub run-file : {file : List ℕ} {stamp said fault : ℕ} {m l : List ℕ} → stamp < 2 ^ 32 → (told : StartFileTold file stamp said fault m l)
     → Run m l (answers.started (told .tree) stamp (told .answer))
 run-file small told = file-run small (told .answer) (told .reads) (told .shows)
+
+-- a start with what came in bursts is one with every file that the memory holds
+pub run-bursts : {kept numbers : List ℕ} {stamp said fault : ℕ} {noted m l : List ℕ} → stamp < 2 ^ 32 → (told : StartBurstsTold kept numbers stamp said fault noted m l)
+    → (file : List ℕ) (holds : Holds kept (seenSaid numbers .count) file) → Run m l (answers.started (told .starts file holds .tree) stamp (told .starts file holds .answer))
+run-bursts small told file holds = run-file small (told .starts file holds)
 
 module _ {m l m′ l′ : List ℕ} {h : History} (run : Run m l h) where
   pub run-arrive : {stamp class bytes said packet : ℕ} → (told : ArriveTold m l stamp class bytes said packet m′ l′)

@@ -13,7 +13,8 @@ use Rattle.tree.specs.Rules.{ShapeChecked, RightTree, broken, kept}
 use Rattle.file.specs.declared.Order.the-variants.{Big}
 use Rattle.file.specs.declared.writer.Written.{Written}
 use Rattle.file.specs.Writing.{WriteJudged, writtenBy, bufferBy, Writes}
-use Rattle.file.specs.Theorems.{ReadsBack, mostFileBytes}
+use Rattle.file.specs.Theorems.{ReadsBack}
+use Rattle.file.specs.Fronts.{mostFileBytes}
 use Rattle.file.proofs.Longest.{file-most}
 use Rattle.file.proofs.Written.{written-reads-back}
 use Rattle.file.proofs.WriteLaws.Bodies.{file-length}

@@ -10,7 +10,8 @@ use Rattle.tree.specs.declared.Verdict.{Verdict}
 use Rattle.file.specs.declared.writer.Written.{Written}
 use Rattle.file.specs.Format.{ReadsAs}
 use Rattle.file.specs.Writing.{Writes}
-use Rattle.file.specs.Theorems.{ReadsBack, mostFileBytes}
+use Rattle.file.specs.Theorems.{ReadsBack}
+use Rattle.file.specs.Fronts.{mostFileBytes}
 use Rattle.rules.specs.declared.Times.{Times}
 use Rattle.rules.specs.declared.Arrival.{Arrival}
 use Rattle.rules.specs.declared.Departure.{Departure}

@@ -22,6 +22,7 @@ ghost use Rattle.state.specs.Heads.{EveryHistory};
 ghost use Rattle.host.specs.Words.{treeSaid};
 ghost use Rattle.host.specs.Promises.{StartTold, StartFileTold, WriteTold, ArriveTold, DepartTold, HeadTold};
 
+pub mod coming;
 mod numbers;
 mod words;
 

@@ -33,26 +33,19 @@ fn tree_argument(has_calls: bool) -> Status {
 
 // Reads the class-tree file of that name. Its tree is replayed over, or printed where there are no calls.
 fn tree_file(name: &[u8], has_calls: bool) -> Status {
-    let mut bytes = io::large_buffer();
-    let got = console::read_file(
-        name,
-        &mut bytes,
-        b"longer than 65536 bytes, no class-tree file",
-    );
-    if !got.is_read {
+    let told = console::read_tree(name);
+    let reads = told.answer;
+    let bursts::Answered::Reads { verdict } = reads else {
         return Status::Failed;
-    }
-    let n = got.bytes;
-    let reading = file::reader::read(&bytes[..n]);
-    let verdict = reading.verdict;
+    };
     if let Verdict::Refused { why, class } = verdict {
         console::say(Answer::TreeRefused { why, class });
         return Status::Failed;
     }
     if has_calls {
-        return calls_argument(reading.tree);
+        return calls_argument(told.tree);
     }
-    console::done(console::say_tree(reading.tree))
+    console::done(console::say_tree(told.tree))
 }
 
 // The second argument, which names a file of calls.

@@ -1,4 +1,5 @@
-// Reads each class-tree file that its arguments name, writes what it finds, and prints how both end.
+// Reads each class-tree file that its arguments name, whole and in bursts, writes what it finds, and prints how each ends.
+mod cut;
 mod writing;
 
 use print::Answer;
@@ -13,6 +14,20 @@ fn print_beyond(tree: Tree) {
     console::text(b" share");
     console::number(class.share as u64);
     console::text(b"\n");
+}
+
+// What a file reads as in bursts. Its tree is then seen by what is written of it.
+fn print_answer(answer: bursts::Answered) {
+    console::text(b"in bursts: ");
+    let bursts::Answered::Reads { verdict } = answer else {
+        console::text(b"nothing yet\n");
+        return;
+    };
+    match verdict {
+        Verdict::Right => console::text(b"right\n"),
+        Verdict::Refused { why, class } => console::say(Answer::TreeRefused { why, class }),
+    }
+    ;
 }
 
 // What the file of that name reads as.
@@ -36,7 +51,10 @@ fn print_file(name: &[u8]) {
             console::say(Answer::TreeRefused { why, class });
         }
     }
-    writing::print(reading.tree, &bytes[..n]);
+    let told = cut::read(&bytes[..n]);
+    let answer = told.answer;
+    print_answer(answer);
+    writing::print(told.tree, &bytes[..n]);
 }
 
 fn print_argument(i: usize) {

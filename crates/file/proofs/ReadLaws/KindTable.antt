@@ -7,6 +7,7 @@ use borrow.Author.Tests.{lt-ltb, le-ltb, eq-eqb, ne-eqb, ltb-true, eqb-true}
 use mathlib.Core.Path.{_≡_, refl}
 use native.Mathlib.Omega.{arith}
 use Rattle.curve.specs.Codec.{kindCurve}
+use Rattle.curve.specs.declared.Curve.the-variants.{None}
 use Rattle.file.specs.Format.{bodyBytes, RightKind, rightKind}
 
 pub unknown-bytes : (kind : ℕ) → 4 ≤ kind → 0 ≡ bodyBytes kind
@@ -25,6 +26,24 @@ least-bytes (suc zero) h = omega arith
 least-bytes (suc (suc zero)) h = omega arith
 least-bytes (suc (suc (suc zero))) h = omega arith
 least-bytes (suc (suc (suc (suc kind)))) h = absurd (omega arith)
+
+-- and 24 bytes at most
+pub most-bytes : (kind : ℕ) → bodyBytes kind ≤ 24
+unfolding bodyBytes
+most-bytes zero = omega arith
+most-bytes (suc zero) = omega arith
+most-bytes (suc (suc zero)) = omega arith
+most-bytes (suc (suc (suc zero))) = omega arith
+most-bytes (suc (suc (suc (suc kind)))) = omega arith
+
+-- where there is no curve, the body has nothing after its kind
+pub none-bytes : (kind x y z : ℕ) → kind < 4 → kindCurve kind x y z ≡ None → bodyBytes kind ≡ 12
+unfolding bodyBytes kindCurve
+none-bytes zero x y z h e = refl
+none-bytes (suc zero) x y z h e = absurd (let o : _≡_ {A = ℕ} 0 1 = cc in omega arith)
+none-bytes (suc (suc zero)) x y z h e = absurd (let o : _≡_ {A = ℕ} 0 1 = cc in omega arith)
+none-bytes (suc (suc (suc zero))) x y z h e = absurd (let o : _≡_ {A = ℕ} 0 1 = cc in omega arith)
+none-bytes (suc (suc (suc (suc kind)))) x y z h e = absurd (omega arith)
 
 -- a kind's curve goes by the numbers that its body has room for
 pub curve-room : (kind x y z x′ y′ z′ : ℕ) → (16 ≤ bodyBytes kind → x ≡ x′) → (20 ≤ bodyBytes kind → y ≡ y′) → (24 ≤ bodyBytes kind → z ≡ z′)

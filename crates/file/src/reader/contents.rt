@@ -1,9 +1,9 @@
 // The contents: where each body lies, and the check of it, 6.
 ghost use mathlib.Core.Path.{_≡_};
 ghost use Prim.Native.Nat.{_+_};
-ghost use lib.ListN.{length};
 ghost use Rattle.curve.specs.Answers.{Exactly};
 ghost use Rattle.file.specs.Format.{RightLength};
+ghost use Rattle.file.specs.Fronts.{AtHand};
 ghost use Rattle.file.specs.Steps.{Opened, Fitting, PlacesJudged};
 use super::entries::Entry;
 use super::entries::next_entry;
@@ -54,17 +54,17 @@ fn end_of(entry: Entry) -> usize
     (entry.offset as usize) + (entry.bytes as usize)
 }
 
-// Check 6: the entries are walked one after another, and the last body has to end at the total.
-pub(crate) fn places(order: Order, count: u32, file: &[u8]) -> Verdict
-    requires { ⌜ Opened (now file) (length (now file)) order count ⌝ }
-    ensures { λ r. ⌜ PlacesJudged (now (file .entry)) r ⌝ }
+// Check 6: the entries are walked one after another, and the last body has to end at the total, which is the number of
+// bytes given.
+pub(crate) fn places(order: Order, count: u32, front: &[u8], total: usize) -> Verdict
+    requires { ⌜ AtHand (now front) total × Opened (now front) total order count ⌝ }
+    ensures { λ r. ⌜ PlacesJudged (now (front .entry)) r ⌝ }
 {
-    let total = file.len();
     let mut start = entry_at(count);
     let mut place = HEADER;
     let mut class = 0;
     while class < count {
-        let entry = next_entry(file, order, place);
+        let entry = next_entry(front, order, place);
         if !fitting(entry, start, total) {
             return Verdict::Refused {
                 why: Refusal::WrongPlace,

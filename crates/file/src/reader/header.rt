@@ -1,8 +1,8 @@
 // The header and its checks.
 ghost use mathlib.Core.Path.{_≡_};
-ghost use lib.ListN.{length};
 ghost use Rattle.tree.specs.declared.Verdict.the-variants.{Refused};
-ghost use Rattle.file.specs.Steps.{HeaderJudged};
+ghost use Rattle.file.specs.Fronts.{AtHand};
+ghost use Rattle.file.specs.Steps.{HeaderCounted};
 use super::words::order_of;
 use super::words::word;
 use crate::format::HEADER;
@@ -12,32 +12,33 @@ use crate::format::entry_at;
 use tree::Refusal;
 use tree::Verdict;
 
-// Checks 1 to 5.
-pub(crate) fn header(file: &[u8]) -> Verdict
-    ensures { λ r. ⌜ HeaderJudged (now (file .entry)) (length (now (file .entry))) r ⌝ }
+// Checks 1 to 5, with the number of bytes given.
+pub(crate) fn header(front: &[u8], given: usize) -> Verdict
+    requires { ⌜ AtHand (now front) given ⌝ }
+    ensures { λ r. ⌜ HeaderCounted (now (front .entry)) given r ⌝ }
 {
-    if file.len() < HEADER {
+    if given < HEADER {
         return whole(Refusal::ShortFile);
     }
-    let order = order_of(file);
-    if word(order, file, 0) != MARK {
+    let order = order_of(front);
+    if word(order, front, 0) != MARK {
         return whole(Refusal::NoMark);
     }
-    if word(order, file, 4) != VERSION {
+    if word(order, front, 4) != VERSION {
         return whole(Refusal::OtherVersion);
     }
-    let count = word(order, file, 8);
+    let count = word(order, front, 8);
     if count < 2 {
         return whole(Refusal::WrongCount);
     }
     if tree::MOST_CLASSES < count {
         return whole(Refusal::WrongCount);
     }
-    let total = word(order, file, 12);
-    if (total as usize) != file.len() {
+    let total = word(order, front, 12);
+    if (total as usize) != given {
         return whole(Refusal::WrongTotal);
     }
-    if file.len() < entry_at(count) {
+    if given < entry_at(count) {
         return whole(Refusal::WrongTotal);
     }
     Verdict::Right

@@ -1,23 +1,15 @@
--- The header's verdict, where it refuses; else that of the rest.
--- Assumes nothing.
-use mathlib.Core.Path.{subst}
-use borrow.Author.Needs.{needs}
-use denote.Ref.{now}
-use Rattle.file.specs.Steps.{HeaderJudged}
-use Rattle.file.proofs.ReadLaws.Judging.{header-refused, reads-refused}
+-- A whole file is at hand. Assumes nothing.
+use mathlib.Core.Path.{refl}
+use mathlib.Core.Logic.{inl}
+use Rattle.file.proofs.ReadLaws.Fronts.{whole-front}
 use Rattle.file.proofs.reader.read.Statement.{statement}
 use Rattle.file.proofs.reader.read.Tie as tie
 
-opened-requires : tie.Need-opened-requires
-opened-requires c κs = subst (HeaderJudged (now (c .before .before .before .before .args .file)) _) (c .enum-told .given .1) (c .before .before .header .ensures)
+read-front-requires : tie.Need-read-front-requires
+read-front-requires c κs = inl refl
 
 returns : tie.Need-returns
-returns c =
-    let file = now (c .before .before .before .before .before .before .args .file) in
-    let e = c .refused .ensures in
-    reads-refused file (header-refused file _ _ _ _ (subst (HeaderJudged file _) (c .before .before .why .given .1) (c .before .before .before .before .header .ensures))) (e .0) (e .1)
+returns c = c .read-front .ensures _ (whole-front _)
 
 pub read-spec : {M : Type 1} → statement M
-read-spec =
-    tie.close
-    (tie.spec (λ c κs. search needs) (λ c. search needs) (λ c κs. search needs) (λ c. search needs) opened-requires returns (λ c. search needs))
+read-spec = tie.close (tie.spec read-front-requires returns)

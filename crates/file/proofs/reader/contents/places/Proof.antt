@@ -4,14 +4,15 @@ use Prim.Native.Nat.{ℕ, _-_, _≤_}
 use mathlib.Core.Path.{_≡_, refl, _∙_, sym, ap, subst}
 use mathlib.Core.List.{List}
 use native.Mathlib.Omega.{arith}
-use lib.ListN.{length}
 use borrow.Author.Count.{below-more}
 use borrow.Author.Needs.{needs}
 use denote.Ref.{now}
 use Rattle.tree.specs.Rules.{EveryClass}
 use Rattle.file.specs.Format.{countOf, totalOf, entryAt, startOf}
+use Rattle.file.specs.Fronts.{mostFileBytes}
 use Rattle.file.specs.Steps.{Fitting}
 use Rattle.curve.proofs.Laws.Answers.{untold-no, untold-yes}
+use Rattle.file.proofs.ReadLaws.Fronts.{hand-long}
 use Rattle.file.proofs.ReadLaws.Places.{FitsAt, EntryIs, entry-is, fitting-as, misplaced, wrong-end, all-placed, start-next}
 use Rattle.file.proofs.reader.contents.places.Statement.{statement}
 use Rattle.file.proofs.reader.contents.places.Tie as tie
@@ -31,27 +32,33 @@ abbrev μ-loop : tie.MeasureT-loop
 
 loop-holds : tie.Need-loop-holds Inv-loop μ-loop
 unfolding startOf
-loop-holds c = record { within = omega arith; entry = refl; next = c .entry-at .ensures ∙ ap entryAt (c .before .before .pre .counted); fit = λ k h. absurd (omega arith) }
+loop-holds c = record { within = omega arith; entry = refl; next = c .entry-at .ensures ∙ ap entryAt (c .before .before .pre .1 .counted); fit = λ k h. absurd (omega arith) }
 
 next-entry-requires : tie.Need-next-entry-requires Inv-loop μ-loop
-next-entry-requires c κs = omega (arith, c .before .before .before .before .pre .right .contents, c .before .before .before .before .pre .counted)
+next-entry-requires c κs =
+    let p = c .before .before .before .before .pre .1 in
+    let few : entryAt (countOf (now (c .before .before .before .before .args .front))) ≤ mostFileBytes = omega (arith, p .within .below, p .counted) in
+    omega (arith, p .counted, hand-long (now (c .before .before .before .before .args .front)) (c .before .before .before .before .args .total) (entryAt (countOf (now (c .before .before .before .before .args .front)))) (c .before .before .before .before .pre .0) (p .right .contents) few)
 
 -- what `fitting` was asked, said of the file
 module _ (c : tie.After-next-entry Inv-loop μ-loop) where
   abbrev file : List ℕ
-  file = now (c .before .before .before .before .before .args .file)
+  file = now (c .before .before .before .before .before .args .front)
 
   abbrev class : ℕ
   class = c .before .before .loop .class
 
+  abbrev total : ℕ
+  total = c .before .before .before .before .before .args .total
+
   abbrev Asked : Type 0
-  Asked = Fitting (c .next-entry .result .offset) (c .next-entry .result .bytes) (c .before .before .loop .start) (length file)
+  Asked = Fitting (c .next-entry .result .offset) (c .next-entry .result .bytes) (c .before .before .loop .start) total
 
   entry : EntryIs file class (c .next-entry .result)
-  entry = entry-is file _ _ class _ (c .before .before .before .before .before .pre .own) (c .before .before .loop .inv .entry) (c .next-entry .ensures)
+  entry = entry-is file _ _ class _ (c .before .before .before .before .before .pre .1 .own) (c .before .before .loop .inv .entry) (c .next-entry .ensures)
 
-  total-is : length file ≡ totalOf file
-  total-is = sym (c .before .before .before .before .before .pre .right .total)
+  total-is : total ≡ totalOf file
+  total-is = sym (c .before .before .before .before .before .pre .1 .right .total)
 
   asked-of : FitsAt file class → Asked
   asked-of = fitting-as (sym (entry .offset)) (sym (entry .bytes)) (sym (c .before .before .loop .inv .next)) (sym total-is)
@@ -62,7 +69,7 @@ module _ (c : tie.After-next-entry Inv-loop μ-loop) where
 returns : tie.Need-returns Inv-loop μ-loop
 returns c =
     let e = c .before .before in
-    misplaced _ _ (omega (arith, c .before .before .before .before .before .before .before .pre .counted)) (e .before .before .loop .inv .fit)
+    misplaced _ _ (omega (arith, c .before .before .before .before .before .before .before .pre .1 .counted)) (e .before .before .loop .inv .fit)
     (λ f. untold-no (c .before .fitting .result) {P = Asked e} (c .before .fitting .ensures) (c .if1 .taken) (asked-of e f))
 
 loop-again : tie.Need-loop-again Inv-loop μ-loop
@@ -78,10 +85,10 @@ loop-again c =
 -- after the walk
 module _ (c : tie.After-loop Inv-loop μ-loop) where
   abbrev whole : List ℕ
-  whole = now (c .before .before .before .before .args .file)
+  whole = now (c .before .before .before .before .args .front)
 
   at-end : c .before .loop .class ≡ countOf whole
-  at-end = omega (arith, c .before .before .before .before .pre .counted)
+  at-end = omega (arith, c .before .before .before .before .pre .1 .counted)
 
   all-fit : EveryClass (FitsAt whole) (countOf whole)
   all-fit = subst (EveryClass (FitsAt whole)) at-end (c .before .loop .inv .fit)
@@ -91,12 +98,12 @@ module _ (c : tie.After-loop Inv-loop μ-loop) where
 
 returns-2 : tie.Need-returns-2 Inv-loop μ-loop
 returns-2 c =
-    let p = c .before .before .before .before .before .pre in
+    let p = c .before .before .before .before .before .pre .1 in
     wrong-end _ _ (omega (arith, p .counted, p .within .above)) (all-fit (c .before)) (λ e. c .if2 .taken (end-is (c .before) ∙ (e ∙ p .right .total)))
 
 returns-3 : tie.Need-returns-3 Inv-loop μ-loop
 returns-3 c =
-    let p = c .before .before .before .before .before .pre in
+    let p = c .before .before .before .before .before .pre .1 in
     all-placed _ (all-fit (c .before)) (sym (end-is (c .before)) ∙ (c .if2 .left ∙ sym (p .right .total)))
 
 pub places-spec : {M : Type 1} → statement M

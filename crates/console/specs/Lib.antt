@@ -1,0 +1,2 @@
+-- What is promised of files that are read.
+pub mod Trees
