@@ -19,6 +19,7 @@ mkdir folder
 ln -s studio.tree link.tree
 head -c 65536 /dev/zero > longest
 head -c 65537 /dev/zero > too-long
+{ cat studio.tree; head -c 1000000 /dev/zero; } > and-zeros
 printf 'start 5\ndepart 4\narrive 6 1 60\n' > refused.calls
 : > in.new
 
@@ -37,13 +38,16 @@ differs() { # WHAT
     echo "$1"
 }
 
+# What prints to a command's standard input.
+from=:
 # A command ends with that status and says so, on standard output and on standard error.
 says() { # STATUS STDOUT STDERR COMMAND ARGUMENT..
     status=$1 out=$2 err=$3
     shift 3
-    run "$@" > out 2> err
+    eval "$from" | run "$@" > out 2> err
     ended=$?
     what="${1##*/} $2 ${3-}"
+    [ "$from" = : ] || what="$from | $what"
     if [ "$ended" -eq "$status" ] && [ "$(cat out)" = "$out" ] && [ "$(cat err)" = "$err" ]; then
         agrees
     else
@@ -73,7 +77,8 @@ refused 11' '' "$replay" studio.tree refused.calls
 says 1 'refused 10 class 0' '' "$replay" damaged-fit.tree
 says 1 'refused 10 class 0' '' "$replay" damaged-fit.tree none
 says 1 'refused 2 class 0' '' "$replay" longest
-says 1 '' 'too-long: longer than 65536 bytes, no class-tree file' "$replay" too-long
+says 1 'refused 2 class 0' '' "$replay" too-long
+says 1 'refused 5 class 0' '' "$replay" and-zeros
 says 1 '' 'none: No such file or directory' "$replay" none
 says 1 '' 'none: No such file or directory' "$replay" none studio.calls
 says 1 '' 'folder: Is a directory' "$replay" folder
@@ -110,6 +115,32 @@ what='replay | maketree'
 stays piped studio.tree
 # shellcheck disable=SC2002
 if cat studio.calls | run "$replay" studio.tree /dev/stdin | cmp -s - "$examples/studio.out"; then agrees; else differs 'calls through a pipe: the answers differ'; fi
+
+# A tree file from a pipe, with a pause after each burst: so many bytes at a time, then the rest.
+bursts() { # BYTES..
+    at=1
+    for bytes in "$@"; do
+        tail -c +"$at" studio.tree | head -c "$bytes"
+        sleep 0.1
+        at=$((at + bytes))
+    done
+    tail -c +"$at" studio.tree
+}
+for from in 'bursts' 'bursts 20' 'bursts 1 2 100' 'sleep 0.1; bursts 15; sleep 0.1'; do
+    says 0 "$(cat studio.txt)" '' "$replay" /dev/stdin
+    says 0 "$(cat "$examples/studio.out")" '' "$replay" /dev/stdin studio.calls
+done
+from=:
+says 1 'refused 1 class 0' '' "$replay" /dev/stdin
+from='head -c 20 studio.tree'
+says 1 'refused 5 class 0' '' "$replay" /dev/stdin
+from='bursts 20; sleep 0.1; printf x'
+says 1 'refused 5 class 0' '' "$replay" /dev/stdin studio.calls
+from='bursts 20; head -c 1000000 /dev/zero'
+says 1 'refused 5 class 0' '' "$replay" /dev/stdin
+from='head -c 1000000 /dev/zero'
+says 1 'refused 2 class 0' '' "$replay" /dev/stdin
+from=:
 
 # No byte can be written, as on a full disk. What is said goes through a pipe, since that is no file.
 what='maketree on a full disk'

@@ -4,13 +4,29 @@ use crate::curves::Curve;
 use crate::tree::{class_allowed, count_allowed, refusal, Class, Refusal, Tree};
 
 const MARK: u32 = 0x0102_0304;
-const HEADER_BYTES: usize = 16;
-const ENTRY_BYTES: usize = 8;
+const HEADER_BYTES: u64 = 16;
+const ENTRY_BYTES: u64 = 8;
 
 #[derive(Clone, Copy, Debug, PartialEq, Eq)]
 pub enum Order {
     Big,
     Little,
+}
+
+/// The bytes given: how many there are, and the one at a place. So a file that ends in very many zeros needs no memory.
+pub trait Given {
+    fn length(&self) -> u64;
+    fn byte(&self, at: u64) -> u8;
+}
+
+impl Given for &[u8] {
+    fn length(&self) -> u64 {
+        self.len() as u64
+    }
+
+    fn byte(&self, at: u64) -> u8 {
+        self[at as usize]
+    }
 }
 
 /// Offset and length of a body as the contents state them.
@@ -20,9 +36,14 @@ struct Entry {
     length: u64,
 }
 
-/// Read a file: the checks 1 to 10 in that order, each over all classes before the next.
+/// Read a file that is in memory.
 pub fn read(bytes: &[u8]) -> Result<Tree, Refusal> {
-    if bytes.len() < HEADER_BYTES {
+    read_given(&bytes)
+}
+
+/// Read a file: the checks 1 to 10 in that order, each over all classes before the next.
+pub fn read_given(bytes: &dyn Given) -> Result<Tree, Refusal> {
+    if bytes.length() < HEADER_BYTES {
         return Err(refusal(1, 0));
     }
     let order = order_of(bytes).ok_or(refusal(2, 0))?;
@@ -33,12 +54,12 @@ pub fn read(bytes: &[u8]) -> Result<Tree, Refusal> {
     if !count_allowed(count) {
         return Err(refusal(4, 0));
     }
-    let contents_end = HEADER_BYTES + ENTRY_BYTES * count;
-    if word(bytes, order, 12) as usize != bytes.len() || contents_end > bytes.len() {
+    let contents_end = contents_end(count);
+    if u64::from(word(bytes, order, 12)) != bytes.length() || contents_end > bytes.length() {
         return Err(refusal(5, 0));
     }
     let entries = contents(bytes, order, count);
-    check_bodies(&entries, contents_end as u64, bytes.len() as u64)?;
+    check_bodies(&entries, contents_end, bytes.length())?;
     let tree = read_bodies(bytes, order, &entries)?;
     tree.check_depths()?;
     tree.check_curves_on_leaves()?;
@@ -47,22 +68,27 @@ pub fn read(bytes: &[u8]) -> Result<Tree, Refusal> {
 }
 
 /// The file's own order, which its first word shows.
-fn order_of(bytes: &[u8]) -> Option<Order> {
+fn order_of(bytes: &dyn Given) -> Option<Order> {
     [Order::Big, Order::Little].into_iter().find(|&order| word(bytes, order, 0) == MARK)
 }
 
 /// The 32-bit word at this byte.
-fn word(bytes: &[u8], order: Order, at: usize) -> u32 {
-    let four = [bytes[at], bytes[at + 1], bytes[at + 2], bytes[at + 3]];
+fn word(bytes: &dyn Given, order: Order, at: u64) -> u32 {
+    let four = [at, at + 1, at + 2, at + 3].map(|at| bytes.byte(at));
     match order {
         Order::Big => u32::from_be_bytes(four),
         Order::Little => u32::from_le_bytes(four),
     }
 }
 
-fn contents(bytes: &[u8], order: Order, count: usize) -> Vec<Entry> {
+/// Where the contents of so many classes end.
+fn contents_end(count: usize) -> u64 {
+    HEADER_BYTES + ENTRY_BYTES * count as u64
+}
+
+fn contents(bytes: &dyn Given, order: Order, count: usize) -> Vec<Entry> {
     let entry = |class: usize| {
-        let at = HEADER_BYTES + ENTRY_BYTES * class;
+        let at = contents_end(class);
         Entry { offset: word(bytes, order, at).into(), length: word(bytes, order, at + 4).into() }
     };
     (0..count).map(entry).collect()
@@ -87,7 +113,7 @@ fn check_bodies(entries: &[Entry], contents_end: u64, total: u64) -> Result<(), 
 }
 
 /// Refusal 7 names the lowest class with any fault in its body.
-fn read_bodies(bytes: &[u8], order: Order, entries: &[Entry]) -> Result<Tree, Refusal> {
+fn read_bodies(bytes: &dyn Given, order: Order, entries: &[Entry]) -> Result<Tree, Refusal> {
     let body = |(class, entry): (usize, &Entry)| {
         read_body(bytes, order, entry).filter(|body| class_allowed(class, body)).ok_or(refusal(7, class))
     };
@@ -96,8 +122,8 @@ fn read_bodies(bytes: &[u8], order: Order, entries: &[Entry]) -> Result<Tree, Re
 }
 
 /// Parent, share, kind, then numbers; nothing if the kind is unknown or against the length.
-fn read_body(bytes: &[u8], order: Order, entry: &Entry) -> Option<Class> {
-    let field = |number: usize| word(bytes, order, entry.offset as usize + 4 * number);
+fn read_body(bytes: &dyn Given, order: Order, entry: &Entry) -> Option<Class> {
+    let field = |number: u64| word(bytes, order, entry.offset + 4 * number);
     let curve = match (field(2), entry.length) {
         (0, 12) => Curve::None,
         (1, 16) => Curve::Straight { m: field(3) },
@@ -135,17 +161,23 @@ pub fn bytes_of(words: &[u32], order: Order) -> Vec<u8> {
 /// The file as words: header, contents, bodies.
 pub fn words_of(tree: &Tree) -> Vec<u32> {
     let bodies: Vec<Vec<u32>> = tree.classes.iter().map(body_words).collect();
-    let mut end = HEADER_BYTES + ENTRY_BYTES * bodies.len();
+    words_of_bodies(&bodies)
+}
+
+/// Header and contents before bodies of any words, one after another: the generator makes wrong bodies too.
+pub fn words_of_bodies(bodies: &[Vec<u32>]) -> Vec<u32> {
+    let mut end = contents_end(bodies.len()) as u32;
     let mut entries = Vec::new();
-    for body in &bodies {
-        entries.extend([end as u32, 4 * body.len() as u32]);
-        end += 4 * body.len();
+    for body in bodies {
+        entries.extend([end, 4 * body.len() as u32]);
+        end += 4 * body.len() as u32;
     }
-    let header = vec![MARK, 1, bodies.len() as u32, end as u32];
+    let header = vec![MARK, 1, bodies.len() as u32, end];
     [header, entries, bodies.concat()].concat()
 }
 
-fn body_words(class: &Class) -> Vec<u32> {
+/// Parent, share, kind, numbers.
+pub fn body_words(class: &Class) -> Vec<u32> {
     let numbers = match class.curve {
         Curve::None => vec![0],
         Curve::Straight { m } => vec![1, m],

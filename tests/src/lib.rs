@@ -3,6 +3,7 @@
 
 #![forbid(unsafe_code)]
 
+pub mod bursts;
 pub mod calls;
 pub mod curves;
 pub mod file;

@@ -2,6 +2,7 @@
 
 use outside::calls::{replay, show_tree};
 use outside::file::read;
+use outside::gen::stored_scripts;
 use outside::lines::Answer;
 use outside::text::maketree;
 use outside::tree::refusal;
@@ -58,6 +59,17 @@ fn the_texts_of_the_corpus() {
         assert_eq!(answer.printed, out, "{}", text.display());
         assert_eq!(answer.status, status_told_by(&out), "{}", text.display());
         assert_eq!(file, fs::read(text.with_extension("made")).ok(), "{}", text.display());
+    }
+}
+
+#[test]
+fn the_scripts_of_bursts() {
+    let scripts = stored_scripts();
+    assert_eq!(fs::read_dir(here("bursts")).unwrap().count(), 2 * scripts.len());
+    for (number, script) in scripts.iter().enumerate() {
+        let name = format!("bursts/{number:03}-{}", script.name);
+        assert_eq!(text(&format!("{name}.script")), script.text(), "{name}");
+        assert_eq!(text(&format!("{name}.out")), script.answer(), "{name}");
     }
 }
 

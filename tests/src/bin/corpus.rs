@@ -1,35 +1,60 @@
 //! `corpus FOLDER [SEED]` writes the stored corpus. Replays: NNN-sort.tree, NNN-sort.calls and NNN-sort.out, what the model prints; no NNN-sort.calls
 //! for a tree to be printed alone. Texts of trees: tNNN-sort.text and tNNN-sort.out, and tNNN-sort.made, the file, where one is written. The same seed
-//! gives the same bytes.
+//! gives the same bytes. `corpus --bursts FOLDER` writes the stored scripts of bursts: NNN-sort.script and NNN-sort.out.
 
-use outside::gen::{corpus, text_corpus};
+use outside::gen::{corpus, stored_scripts, text_corpus};
 use std::path::Path;
 
-fn main() {
-    let mut arguments = std::env::args().skip(1);
-    let Some(folder) = arguments.next() else {
-        eprintln!("usage: corpus FOLDER [SEED]");
-        std::process::exit(2)
-    };
-    let seed = arguments.next().map_or(1, |text| text.parse().expect("a seed is a number"));
-    let folder = Path::new(&folder);
+fn usage() -> ! {
+    eprintln!("usage: corpus FOLDER [SEED]\n       corpus --bursts FOLDER");
+    std::process::exit(2)
+}
+
+fn put(folder: &str, name: String, bytes: &[u8]) {
     std::fs::create_dir_all(folder).expect("make the folder");
-    let put = |name: String, bytes: &[u8]| std::fs::write(folder.join(name), bytes).expect("write a file of the corpus");
+    std::fs::write(Path::new(folder).join(name), bytes).expect("write a file of the corpus");
+}
+
+fn write_replays(folder: &str, seed: u64) {
     for (number, case) in corpus(seed).iter().enumerate() {
         let name = format!("{number:03}-{}", case.name);
-        put(format!("{name}.tree"), &case.tree_file);
+        put(folder, format!("{name}.tree"), &case.tree_file);
         if let Some(calls) = &case.calls {
-            put(format!("{name}.calls"), calls);
+            put(folder, format!("{name}.calls"), calls);
         }
-        put(format!("{name}.out"), case.answer().printed.as_bytes());
+        put(folder, format!("{name}.out"), case.answer().printed.as_bytes());
     }
+}
+
+fn write_texts(folder: &str) {
     for (number, case) in text_corpus().iter().enumerate() {
         let name = format!("t{number:03}-{}", case.name);
         let (answer, file) = case.answer();
-        put(format!("{name}.text"), &case.text);
-        put(format!("{name}.out"), answer.printed.as_bytes());
+        put(folder, format!("{name}.text"), &case.text);
+        put(folder, format!("{name}.out"), answer.printed.as_bytes());
         if let Some(file) = file {
-            put(format!("{name}.made"), &file);
+            put(folder, format!("{name}.made"), &file);
         }
     }
+}
+
+fn write_scripts(folder: &str) {
+    for (number, script) in stored_scripts().iter().enumerate() {
+        let name = format!("{number:03}-{}", script.name);
+        put(folder, format!("{name}.script"), script.text().as_bytes());
+        put(folder, format!("{name}.out"), script.answer().as_bytes());
+    }
+}
+
+fn main() {
+    let arguments: Vec<String> = std::env::args().skip(1).collect();
+    let words: Vec<&str> = arguments.iter().map(String::as_str).collect();
+    let (folder, seed) = match words[..] {
+        ["--bursts", folder] => return write_scripts(folder),
+        [folder] if !folder.starts_with("--") => (folder, 1),
+        [folder, seed] => (folder, seed.parse().unwrap_or_else(|_| usage())),
+        _ => usage(),
+    };
+    write_replays(folder, seed);
+    write_texts(folder);
 }

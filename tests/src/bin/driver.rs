@@ -1,36 +1,47 @@
-//! `driver REPLAY [--maketree MAKETREE] [--seed S] [--runs N] [--calls N] [--tree]`
-//! takes the cases told by hand and at the edge of each rule, on trees and on lines, then N cases from seed S on, runs the program REPLAY on each with two more arguments,
-//! TREE and CALLS, and compares what it prints, line by line, and its exit status with the model. With --tree it also compares what REPLAY prints for
+//! `driver [REPLAY] [--maketree MAKETREE] [--bursts PROGRAM] [--seed S] [--runs N] [--calls N] [--tree]`
+//! takes the cases told by hand and at the edge of each rule, on trees and on lines, then N cases from seed S on, runs the program REPLAY on each with
+//! TREE and CALLS, or TREE alone where a case has no calls, and compares what it prints, line by line, and its exit status with the model. With --tree it also compares what REPLAY prints for
 //! TREE alone. With --maketree it then does the same for texts of trees: what MAKETREE answers and which file it makes, text to file to text, file to text
-//! to file, and that a file that is there stays. At the first difference it keeps the files, says where, and ends with status 1.
+//! to file, and that a file that is there stays. With --bursts it gives PROGRAM, which is `bursts.c`, scripts: files of all sorts and lengths in bursts, each
+//! cut in two ways; REPLAY may then be left out. At the first difference it keeps the files, says where, and ends with status 1.
 
 use outside::calls::show_tree;
 use outside::file::{file_of, read, Order};
-use outside::gen::{by_hand, case, edges, more_by_hand, more_texts, random_tree, sort_of_answer, text_case, text_corpus, texts, Case, Dice, TextCase};
+use outside::gen::{
+    by_hand, case, edges, longs, more_by_hand, more_texts, random_tree, script, scripts_by_hand, sort_of_answer, text_case, text_corpus, texts, Case, Dice, Script, TextCase,
+};
 use outside::lines::Answer;
 use std::collections::BTreeMap;
 use std::fs;
+use std::ops::Range;
 use std::path::{Path, PathBuf};
 use std::process::{exit, Command};
 
 struct Options {
-    replay: String,
+    replay: Option<String>,
     maketree: Option<String>,
+    bursts: Option<String>,
     seed: u64,
     runs: u64,
     calls: usize,
     tree: bool,
 }
 
+impl Options {
+    fn seeds(&self) -> Range<u64> {
+        self.seed..self.seed + self.runs
+    }
+}
+
 fn usage() -> ! {
-    eprintln!("usage: driver REPLAY [--maketree MAKETREE] [--seed S] [--runs N] [--calls N] [--tree]");
+    eprintln!("usage: driver [REPLAY] [--maketree MAKETREE] [--bursts PROGRAM] [--seed S] [--runs N] [--calls N] [--tree]");
     exit(2)
 }
 
 fn options() -> Options {
-    let mut arguments = std::env::args().skip(1);
-    let replay = arguments.next().filter(|first| !first.starts_with("--")).unwrap_or_else(|| usage());
-    let mut options = Options { replay, maketree: None, seed: 1, runs: 100, calls: 120, tree: false };
+    let mut arguments = std::env::args().skip(1).peekable();
+    let replay = arguments.next_if(|first| !first.starts_with("--"));
+    let mut options = Options { replay, maketree: None, bursts: None, seed: 1, runs: 100, calls: 120, tree: false };
     while let Some(option) = arguments.next() {
         if option == "--tree" {
             options.tree = true;
@@ -40,11 +51,15 @@ fn options() -> Options {
         let number = || value.parse::<u64>().unwrap_or_else(|_| usage());
         match option.as_str() {
             "--maketree" => options.maketree = Some(value),
+            "--bursts" => options.bursts = Some(value),
             "--seed" => options.seed = number(),
             "--runs" => options.runs = number(),
             "--calls" => options.calls = number() as usize,
             _ => usage(),
         }
+    }
+    if options.replay.is_none() && (options.bursts.is_none() || options.maketree.is_some()) {
+        usage()
     }
     options
 }
@@ -137,20 +152,21 @@ impl Room {
 }
 
 /// Run the replay program on one case and compare; answers what the model printed.
-fn check(options: &Options, room: &Room, case: &Case) -> String {
+fn check(options: &Options, replay: &str, room: &Room, case: &Case) -> String {
     let tree = room.put("tree", &case.tree_file);
-    let calls = room.put("calls", case.calls.as_deref().unwrap_or_default());
+    let calls = case.calls.as_ref().map(|calls| room.put("calls", calls));
+    let files: Vec<&Path> = std::iter::once(&tree).chain(&calls).map(PathBuf::as_path).collect();
     let expected = case.answer();
-    room.compare(&case.name, &expected, &run(&options.replay, &[&tree, &calls]));
-    if options.tree {
+    room.compare(&case.name, &expected, &run(replay, &files));
+    if options.tree && calls.is_some() {
         let what = format!("{}, tree alone", case.name);
-        room.compare(&what, &show_tree(&case.tree_file), &run(&options.replay, &[&tree]));
+        room.compare(&what, &show_tree(&case.tree_file), &run(replay, &[&tree]));
     }
     expected.printed
 }
 
 /// A text and the file that is made of it, and that file's text; answers what the model printed.
-fn check_text(options: &Options, maketree: &str, room: &Room, case: &TextCase) -> String {
+fn check_text(replay: &str, maketree: &str, room: &Room, case: &TextCase) -> String {
     let (text, tree, beside) = (room.put("text", &case.text), room.free("made"), room.free("made.new"));
     let (expected, file) = case.answer();
     room.compare(&case.name, &expected, &run(maketree, &[&text, &tree]));
@@ -158,7 +174,7 @@ fn check_text(options: &Options, maketree: &str, room: &Room, case: &TextCase) -
     room.compare_file(&case.name, None, &beside);
     let Some(file) = file else { return expected.printed };
     let what = format!("{}, text of the file", case.name);
-    room.compare(&what, &show_tree(&file), &run(&options.replay, &[&tree]));
+    room.compare(&what, &show_tree(&file), &run(replay, &[&tree]));
     "written\n".to_string()
 }
 
@@ -182,17 +198,36 @@ fn check_taken(maketree: &str, room: &Room, case: &TextCase) {
 }
 
 /// A file in either order, its text, and the file of that: the first file, big-endian.
-fn check_file(options: &Options, maketree: &str, room: &Room, seed: u64) {
+fn check_file(replay: &str, maketree: &str, room: &Room, seed: u64) {
     let mut dice = Dice::new(seed);
     let tree = random_tree(&mut dice);
     let order = dice.pick(&[Order::Big, Order::Little]);
     let what = format!("seed {seed}, file to text to file");
-    let ran = run(&options.replay, &[&room.put("tree", &file_of(&tree, order))]);
+    let ran = run(replay, &[&room.put("tree", &file_of(&tree, order))]);
     room.compare(&what, &Answer::done(tree.print()), &ran);
     let (text, made) = (room.put("text", ran.answer.printed.as_bytes()), room.free("made"));
     room.compare(&what, &Answer::done(String::new()), &run(maketree, &[&text, &made]));
     room.compare_file(&what, Some(&file_of(&tree, Order::Big)), &made);
     assert_eq!(read(&fs::read(made).expect("it was compared")), Ok(tree));
+}
+
+/// Scripts one after another in one run of the program, since it may be under an emulator, which starts slowly. Answers what the model printed.
+fn check_scripts(program: &str, room: &Room, scripts: &[Script]) -> String {
+    let script = room.put("script", scripts.iter().map(Script::text).collect::<String>().as_bytes());
+    let ran = run(&format!("{program} <"), &[&script]);
+    let mut rest = ran.answer.printed.split_inclusive('\n');
+    let mut all = String::new();
+    for script in scripts {
+        let printed: String = rest.by_ref().take(script.steps.len()).collect();
+        let expected = script.answer();
+        if expected != printed {
+            room.put("script", script.text().as_bytes());
+        }
+        room.compare(&script.name, &Answer::done(expected.clone()), &Ran { answer: Answer::done(printed), said: ran.said.clone() });
+        all += &expected;
+    }
+    room.compare("scripts", &Answer::done(all.clone()), &ran);
+    all
 }
 
 /// The case of a seed, with the seed in its name.
@@ -206,6 +241,11 @@ fn seeded_text(seed: u64) -> TextCase {
     TextCase { name: format!("seed {seed}, {}", case.name), ..case }
 }
 
+fn seeded_script(seed: u64) -> Script {
+    let script = script(seed);
+    Script { name: format!("seed {seed}, bursts of a {} file", script.name), ..script }
+}
+
 /// How often each sort of line was seen.
 #[derive(Default)]
 struct Seen {
@@ -214,8 +254,8 @@ struct Seen {
 }
 
 impl Seen {
-    fn add(&mut self, printed: &str) {
-        self.cases += 1;
+    fn add(&mut self, printed: &str, cases: usize) {
+        self.cases += cases;
         for line in printed.lines() {
             *self.sorts.entry(sort_of_answer(line)).or_default() += 1;
         }
@@ -229,26 +269,51 @@ impl Seen {
     }
 }
 
+fn replays(options: &Options, replay: &str, room: &Room) {
+    let told = by_hand().into_iter().chain(more_by_hand()).chain(edges()).chain(texts()).chain(more_texts()).chain(longs());
+    let mut seen = Seen::default();
+    for case in told.chain(options.seeds().map(|seed| seeded(options, seed))) {
+        seen.add(&check(options, replay, room, &case), 1);
+    }
+    seen.print("cases", options.runs);
+}
+
+fn texts_of_trees(options: &Options, replay: &str, maketree: &str, room: &Room) {
+    let mut seen = Seen::default();
+    for (turn, case) in text_corpus().into_iter().chain(options.seeds().map(seeded_text)).enumerate() {
+        seen.add(&check_text(replay, maketree, room, &case), 1);
+        if turn % 8 == 0 {
+            check_taken(maketree, room, &case);
+        }
+    }
+    options.seeds().for_each(|seed| check_file(replay, maketree, room, seed));
+    seen.print("texts", options.runs);
+}
+
+/// The scripts that are given to one run of the program, at most.
+const SCRIPTS: usize = 50;
+
+fn bursts(options: &Options, program: &str, room: &Room) {
+    let mut seen = Seen::default();
+    let mut scripts = scripts_by_hand().into_iter().chain(options.seeds().map(seeded_script)).peekable();
+    while scripts.peek().is_some() {
+        let some: Vec<Script> = scripts.by_ref().take(SCRIPTS).collect();
+        seen.add(&check_scripts(program, room, &some), some.len());
+    }
+    seen.print("scripts of bursts", options.runs);
+}
+
 fn main() {
     let options = options();
     let room = Room::new();
-    let seeds = options.seed..options.seed + options.runs;
-    let told = by_hand().into_iter().chain(more_by_hand()).chain(edges()).chain(texts()).chain(more_texts());
-    let mut seen = Seen::default();
-    for case in told.chain(seeds.clone().map(|seed| seeded(&options, seed))) {
-        seen.add(&check(&options, &room, &case));
+    if let Some(replay) = &options.replay {
+        replays(&options, replay, &room);
     }
-    seen.print("cases", options.runs);
-    if let Some(maketree) = &options.maketree {
-        let mut seen = Seen::default();
-        for (turn, case) in text_corpus().into_iter().chain(seeds.clone().map(seeded_text)).enumerate() {
-            seen.add(&check_text(&options, maketree, &room, &case));
-            if turn % 8 == 0 {
-                check_taken(maketree, &room, &case);
-            }
-        }
-        seeds.for_each(|seed| check_file(&options, maketree, &room, seed));
-        seen.print("texts", options.runs);
+    if let (Some(replay), Some(maketree)) = (&options.replay, &options.maketree) {
+        texts_of_trees(&options, replay, maketree, &room);
+    }
+    if let Some(program) = &options.bursts {
+        bursts(&options, program, &room);
     }
     fs::remove_dir_all(&room.folder).expect("remove the temporary folder");
 }

@@ -8,14 +8,11 @@ use std::fs::{self, File};
 use std::io::{self, Write};
 use std::process::exit;
 
-/// The longest file that is read as a class-tree file.
-const TREE_TOP: usize = 65_536;
-
 fn main() {
     let arguments: Vec<String> = std::env::args().skip(1).collect();
     let words: Vec<&str> = arguments.iter().map(String::as_str).collect();
     match words[..] {
-        ["replay", tree] => end(show_tree(&read(tree, TREE_TOP, "class-tree file"))),
+        ["replay", tree] => end(show_tree(&read(tree))),
         ["replay", tree, calls] => replay_files(tree, calls),
         ["maketree", text, tree] => make(text, tree),
         _ => {
@@ -27,16 +24,20 @@ fn main() {
 
 /// The tree is read and judged before the calls are opened.
 fn replay_files(tree: &str, calls: &str) {
-    let tree_file = read(tree, TREE_TOP, "class-tree file");
+    let tree_file = read(tree);
     if show_tree(&tree_file).status == 0 {
-        end(replay(&tree_file, &read(calls, usize::MAX, "")));
+        end(replay(&tree_file, &read(calls)));
     }
     end(show_tree(&tree_file));
 }
 
 /// The text is read and judged first. The file is written beside, and takes its name where that is free; else nothing is left of it.
 fn make(text: &str, tree: &str) {
-    let (answer, file) = maketree(&read(text, TEXT_TOP, "text of a tree"));
+    let bytes = read(text);
+    if bytes.len() > TEXT_TOP {
+        fail(text, &format!("longer than {TEXT_TOP} bytes, no text of a tree"));
+    }
+    let (answer, file) = maketree(&bytes);
     let Some(bytes) = file else { end(answer) };
     let beside = format!("{tree}.new");
     let made = File::create_new(&beside).unwrap_or_else(|fault| fail(&beside, &told(&fault)));
@@ -75,10 +76,6 @@ fn told(fault: &io::Error) -> String {
     text.split(" (os error").next().unwrap_or_default().to_string()
 }
 
-fn read(path: &str, top: usize, what: &str) -> Vec<u8> {
-    let bytes = fs::read(path).unwrap_or_else(|fault| fail(path, &told(&fault)));
-    if bytes.len() > top {
-        fail(path, &format!("longer than {top} bytes, no {what}"));
-    }
-    bytes
+fn read(path: &str) -> Vec<u8> {
+    fs::read(path).unwrap_or_else(|fault| fail(path, &told(&fault)))
 }

@@ -2,6 +2,7 @@
 
 use super::damage::{damaged_file, edge_files};
 use super::dice::Dice;
+use super::long::{long_file, long_files};
 use super::runs::{disciplined_run, full_run, late_run, loose_run, same_tick_run, Run};
 use super::text::{more_text_files, text_files};
 use super::trees::{random_tree, tree_a};
@@ -67,7 +68,13 @@ fn case_of_damage(dice: &mut Dice, number: u32) -> Case {
     Case::new(format!("damaged-{number}"), tree_file, FEW_CALLS)
 }
 
-/// The case of a seed: mostly runs, now and then a damaged file, seldom a run to the top of the clock.
+/// A file about as long as the longest right one, now and then a much longer one.
+fn case_of_long_file(dice: &mut Dice) -> Case {
+    let length = if dice.chance(1, 8) { dice.between(60_000, 140_000) } else { dice.between(2_040, 2_100) };
+    Case::new("long", long_file(dice, length as usize), FEW_CALLS)
+}
+
+/// The case of a seed: mostly runs, now and then a damaged or a long file, seldom a run to the top of the clock.
 pub fn case(seed: u64, calls: usize) -> Case {
     let mut dice = Dice::new(seed);
     let dice = &mut dice;
@@ -78,7 +85,8 @@ pub fn case(seed: u64, calls: usize) -> Case {
             return case_of_damage(dice, number);
         }
         8 => ("late", late_run(dice, calls / 4)),
-        9..=18 => ("link", disciplined_run(dice, calls)),
+        9 => return case_of_long_file(dice),
+        10..=18 => ("link", disciplined_run(dice, calls)),
         19..=22 => ("same-tick", same_tick_run(dice, calls)),
         _ => ("loose", loose_run(dice, calls)),
     };
@@ -234,6 +242,11 @@ fn trees_alone(dice: &mut Dice) -> Vec<Case> {
     files.into_iter().map(|(name, tree_file)| Case { name: format!("alone-{name}"), tree_file, calls: None }).collect()
 }
 
+/// Tree files about as long as the longest right one, and longer, to be printed alone. They stand last in the corpus.
+pub fn longs() -> Vec<Case> {
+    long_files().into_iter().map(|(name, tree_file)| Case { name, tree_file, calls: None }).collect()
+}
+
 /// The cases of the stored corpus: some of each sort.
 pub fn corpus(seed: u64) -> Vec<Case> {
     let mut dice = Dice::new(seed);
@@ -262,6 +275,7 @@ pub fn corpus(seed: u64) -> Vec<Case> {
     cases.extend(trees_alone(dice));
     cases.extend(more_by_hand());
     cases.extend(more_texts());
+    cases.extend(longs());
     cases
 }
 
@@ -271,6 +285,7 @@ pub fn sort_of_answer(line: &str) -> String {
     match words[..] {
         ["refused", number, "class", _] => format!("tree refused {number}"),
         ["refused", _] | ["none", "waits"] => line.to_string(),
+        [step @ ("end" | "start"), number, "class", ..] => format!("{step} {number}"),
         ["packet", .., "rule", "fair"] => "fair without curve".to_string(),
         ["packet", .., "rule", rule, "eligible", _, "deadline", _] => rule.to_string(),
         ["line", _, "class", _, "comes", "next"] => "class comes next".to_string(),

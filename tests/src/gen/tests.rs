@@ -139,3 +139,72 @@ fn texts_by_hand() {
     assert_eq!(answer("wrong-after-rule"), "line 4: not a class\n");
     assert!(cases.iter().all(|case| case.text.len() <= 65_536));
 }
+
+/// Every refusal comes at the end of bursts, and with it every sort of file; each file is answered alike, however it was cut.
+#[test]
+fn scripts_reach_every_answer() {
+    let mut seen: BTreeMap<String, usize> = BTreeMap::new();
+    for seed in 0..600 {
+        let script = script(seed);
+        let answer = script.answer();
+        let told = |line: &&str| line.starts_with("end ") || line.starts_with("start ");
+        let results: Vec<Vec<&str>> = answer.lines().filter(told).map(|line| line.split(' ').skip(1).take(3).collect()).collect();
+        assert!(results.len() >= 2 && results.iter().all(|result| *result == results[0]), "{seed}: {results:?}");
+        *seen.entry(format!("{} {}", script.name, results[0].join(" "))).or_default() += 1;
+        *seen.entry(results[0][0].to_string()).or_default() += 1;
+    }
+    println!("{seen:?}");
+    for number in 0..=10 {
+        assert!(seen.get(&number.to_string()).is_some_and(|&count| count >= 5), "{number}: {seen:?}");
+    }
+    for result in ["near 0 class 0", "near 5 class 0", "near 6 class 63", "near 7 class 0", "long 6 class 63", "longer 6 class 63", "longer 5 class 0"] {
+        assert!(seen.get(result).is_some_and(|&count| count >= 5), "{result}: {seen:?}");
+    }
+}
+
+/// The long files by hand get the refusals that they were made for.
+#[test]
+fn long_files_by_hand() {
+    let answers: Vec<(String, String)> = longs().into_iter().map(|case| (case.answer().printed.lines().next().unwrap().to_string(), case.name)).collect();
+    let expected = [
+        ("tree", "2052-right"), ("tree", "2052-right-too"), ("tree", "2040-right"), ("refused 7 class 63", "2040-share"), ("refused 9 class 62", "2044-inside"),
+        ("refused 10 class 0", "2044-fit"), ("refused 5 class 0", "2051-byte-less"), ("refused 5 class 0", "2053-byte-more"),
+        ("refused 6 class 63", "2053-byte-more-stated"), ("refused 6 class 63", "2056-word-more-stated"), ("refused 7 class 0", "2056-root-straight"),
+        ("refused 7 class 0", "2056-root-kind-0"), ("refused 7 class 0", "2060-root-delayed"), ("refused 7 class 0", "2064-root-front"),
+        ("refused 5 class 0", "2064-root-front-total"), ("refused 6 class 63", "2064-root-front-length"), ("refused 6 class 62", "2064-root-front-offset"),
+        ("refused 6 class 63", "2068-root-front-stated"), ("refused 6 class 63", "2100-stated"), ("refused 5 class 0", "2100-total"),
+        ("refused 6 class 63", "65536-stated"), ("refused 5 class 0", "65536-total"), ("refused 6 class 63", "70001-stated"),
+    ];
+    assert_eq!(answers, expected.map(|(answer, name)| (answer.to_string(), format!("long-{name}"))));
+}
+
+/// The scripts by hand have names of their own, begin with `begin`, and end as they should.
+#[test]
+fn scripts_told_by_hand() {
+    let scripts = scripts_by_hand();
+    assert!(scripts.iter().all(|script| script.text().starts_with("begin\n")));
+    let ends = |name: &str, result: &str| {
+        let found: Vec<&Script> = scripts.iter().filter(|script| script.name == name).collect();
+        assert_eq!(found.len(), 1, "{name}");
+        let answer = found[0].answer();
+        let last = answer.lines().rev().find(|line| line.starts_with("end ")).unwrap().to_string();
+        assert!(last.starts_with(&format!("end {result} ")), "{name}: {last}");
+    };
+    ends("empty-bursts", "1 class 0 seen 0 1");
+    ends("end-twice", "5 class 0 seen 95 1");
+    ends("zeros-inside", "0 class 0 seen 96 1");
+    ends("kept-right", "0 class 0 seen 2052 1");
+    ends("kept-and-more", "5 class 0 seen 2055 1");
+    ends("kept-crossed", "7 class 0 seen 2064 1");
+    ends("kept-zeros", "6 class 63 seen 65536 1");
+    ends("round-and-60", "5 class 0 seen 4294967296 1");
+    ends("round-and-5", "5 class 0 seen 4294967296 1");
+    ends("round-less-1", "6 class 1 seen 4294967295 1");
+    ends("round-less-1-wide", "6 class 63 seen 4294967295 1");
+    ends("round", "5 class 0 seen 4294967296 1");
+    ends("round-total-0", "5 class 0 seen 4294967296 1");
+    ends("twice-round-less-1", "5 class 0 seen 4294967296 1");
+    for number in 2..=10 {
+        assert!(scripts.iter().any(|script| script.name.starts_with("edge-") && script.answer().contains(&format!("\nend {number} class "))), "{number}");
+    }
+}
