@@ -1,4 +1,4 @@
-/* The rules of document 01 with a small state: two pieces stand for a leaf's whole history, one for a class's. */
+/* The rules of document 01, and request 2 of document 02, with a small state: two pieces stand for a leaf's whole history, one for a class's. */
 #include "hfsc.h"
 
 #include <string.h>
@@ -9,7 +9,7 @@
 static uint64_t parts(uint64_t bytes) { return bytes << 16; }
 static uint64_t up(uint64_t n, uint64_t by) { return (n + by - 1) / by; }
 static uint64_t larger(uint64_t a, uint64_t b) { return a < b ? b : a; }
-static uint64_t weigh(uint32_t length) { return length; }
+uint64_t weigh(uint32_t length) { return (uint64_t)length + 20; }
 
 /* ---- curves */
 

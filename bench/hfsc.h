@@ -53,6 +53,9 @@ struct packet {
 
 enum { NONE_WAITS = -1 };
 
+/* What a packet of so many bytes counts for, in bytes and in ticks of the link: with 8 bytes before it and a gap of 12 after it. */
+uint64_t weigh(uint32_t length);
+
 /* Each answers 0, or document 01's number of refusal; a departure also NONE_WAITS. */
 int hfsc_start(struct hfsc *s, const struct tree *tree, uint32_t stamp);
 int hfsc_arrive(struct hfsc *s, uint32_t stamp, uint32_t class, uint32_t length, uint64_t *number);

@@ -9,7 +9,7 @@
 #define REFUSED (UINT64_C(1) << 32)
 
 static struct hfsc s;
-static uint32_t seed, stamp, last_class, last_length;
+static uint32_t seed, stamp, last_class, last_ticks;
 static uint64_t left, sum, mix;
 
 static void note(uint64_t number) {
@@ -27,7 +27,7 @@ static void arrives(uint32_t class, uint32_t pause) {
 
 static void departs(void) {
     struct packet p;
-    stamp += last_length;
+    stamp += last_ticks;
     if (hfsc_depart(&s, stamp, &p)) {
         note(REFUSED);
         return;
@@ -35,7 +35,7 @@ static void departs(void) {
     note(p.class);
     note(p.number);
     last_class = p.class;
-    last_length = p.length;
+    last_ticks = weigh(p.length);
     left++;
     if (p.real_time) note(1);
     if (p.timed) {
@@ -90,9 +90,9 @@ static int offered(uint32_t above, uint32_t length) {
     return hfsc_arrive(&s, stamp, above + 1, length, &number);
 }
 
-/* Packets of 9,000 bytes for the first leaf, each of which leaves before the next comes, until one is refused. 5,776 bytes are left then. */
+/* Packets of 9,000 bytes for the first leaf, each of which leaves before the next comes, until one is refused. 2,256 bytes are left then: room for 2,236. */
 static void fill(uint32_t above, uint32_t pairs) {
-    const uint32_t lengths[] = {9000, 5777, 5776, 1};
+    const uint32_t lengths[] = {9000, 2237, 2236, 1};
     while (pairs-- && !offered(above, 9000)) departs();
     for (int i = 0; i < 4; i++) printf("%s%u: %d", i ? ", " : "", lengths[i], offered(above, lengths[i]));
     printf("\n");

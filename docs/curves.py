@@ -1,6 +1,13 @@
-"""Document 01's curves, and what pictures are drawn with, for the scripts that work out the numbers of these pages."""
+"""Document 01's curves, what a packet counts for, and what pictures are drawn with, for the scripts that work out the numbers of these pages."""
 
 WHOLE = 65536  # parts are a byte; as a rate or a share, the most
+BEFORE, AFTER = 8, 12  # document 02, request 2: bytes of preamble and start mark before a packet, byte-times of the gap after it
+AROUND = BEFORE + AFTER
+
+
+def held(length):
+    """The ticks for which a packet holds the link, and the bytes that it counts for."""
+    return length + AROUND
 
 
 def amount(kind, numbers, t):

@@ -1,6 +1,6 @@
 #!/usr/bin/env python3
 """The numbers and the pictures of docs/MANUAL.md. Works out every number from the line's rate and document 01's definitions, draws docs/manual-*.svg, and
-prints the sentences and tables that hold the numbers. It stops with a message where one of them is not on the page, where the page has a number that is neither
+prints the sentences and tables that hold the numbers. Framing counts, by document 02's request 2. It stops with a message where one of them is not on the page, where the page has a number that is neither
 worked out here nor given by document 01, where the page's tree breaks a rule of 01, or where a refusal, a picture or a link is missing."""
 
 import itertools
@@ -10,7 +10,7 @@ from collections import namedtuple
 from pathlib import Path
 
 import curves
-from curves import WHOLE, dot, least, line, text
+from curves import AFTER, AROUND, BEFORE, WHOLE, dot, held, least, line, text
 
 REPO = Path(__file__).resolve().parent.parent
 PAGE = REPO / "docs/MANUAL.md"
@@ -19,7 +19,8 @@ PAGE = REPO / "docs/MANUAL.md"
 LATEST_BEND = 1048576
 CLASSES = (2, 64)
 DEEPEST = 8
-LONGEST = 9000  # bytes of a packet, and the ticks of the guarantee
+LONGEST = 9000  # bytes of a packet
+LATE = held(LONGEST)  # ticks, of the guarantee
 ROOM = 64  # packets waiting in a leaf
 BODY = {"none": 12, "straight": 16, "front-loaded": 24, "delayed": 20}
 REFUSALS = range(1, 18)
@@ -65,7 +66,8 @@ def reached(curve, pieces, count, later=0):
 
 
 def deadline(curve, length, pieces=((0, 0),), sent=0):
-    return reached(curve, pieces, sent + length)
+    """Of a packet of this length, after so many bytes sent, framing included."""
+    return reached(curve, pieces, sent + held(length))
 
 
 def eligible(curve, pieces=((0, 0),), sent=0):
@@ -159,6 +161,11 @@ def parts(rate, line=LINE):
     return up(rate * WHOLE, line)
 
 
+def in_a_ms(parts):
+    """Bytes a millisecond, of a rate."""
+    return whole(parts * ticks(1), WHOLE)
+
+
 def hours(n):
     minutes = n * 8 // (LINE * 1000) // 60
     return f"{minutes // 60} hours and {minutes % 60} minutes"
@@ -173,14 +180,14 @@ LENGTH = PAYLOAD + HEADERS
 PERIOD = ticks(EVERY)
 
 
-def quick(length):
-    """Front-loaded: a packet of this length by SOON, and one every EVERY milliseconds for ever."""
-    return Curve("front-loaded", (up(length * WHOLE, ticks(SOON)), ticks(SOON), up(length * WHOLE, PERIOD)))
+def rate(length, every):
+    """A packet of this length in so many ticks, in parts."""
+    return up(held(length) * WHOLE, every)
 
 
-STRAIGHT = Curve("straight", (parts(SPEECH),))
-QUICK = quick(PAYLOAD)
-FRAMED = quick(LENGTH)
+STRAIGHT = Curve("straight", (rate(LENGTH, PERIOD),))
+QUICK = Curve("front-loaded", (rate(LENGTH, ticks(SOON)), ticks(SOON), rate(LENGTH, PERIOD)))
+BARE = Curve("straight", (parts(SPEECH),))  # of the speech alone: too little
 DELAYED = Curve("delayed", (ticks(WAIT), parts(CONTROL)))
 
 
@@ -200,14 +207,14 @@ def check_stream(curve, length, offset):
             steady = times == (k * PERIOD, k * PERIOD + offset) or (real_time, emptied) != (1, 1)
             if times[1] > k * PERIOD + offset or not steady:
                 stop(f"packet {k} of a stream under {spelled(curve)}: eligible and deadline {times}")
-            sent += length if k % real_time == 0 else 0
+            sent += held(length) if k % real_time == 0 else 0
 
 
 def fair_turns(shares, length, turns):
     """Leaves that always wait and are sent from by the fair rule alone: how many packets each gets."""
     sent = [0] * len(shares)
     for _ in range(turns):
-        virtual = [up(WHOLE * w * length, share) for w, share in zip(sent, shares)]
+        virtual = [up(WHOLE * w * held(length), share) for w, share in zip(sent, shares)]
         sent[virtual.index(min(virtual))] += 1
     return sent
 
@@ -215,42 +222,46 @@ def fair_turns(shares, length, turns):
 def words_of_the_sum():
     """The sentences of the page that hold worked numbers, up to the tree."""
     bits, second = LINE * 1000, ticks(1000)
-    fast, slow = parts(SPEECH, OTHER_LINE), parts(SPEECH, OTHER_LINE) - 1
-    short = [deadline(Curve("straight", (rate,)), PAYLOAD) for rate in (fast, slow)]
-    if SPEECH * WHOLE % OTHER_LINE == 0 or short != [ticks(EVERY, OTHER_LINE), ticks(EVERY, OTHER_LINE) + 1]:
+    other = ticks(EVERY, OTHER_LINE)
+    fast, slow = rate(LENGTH, other), rate(LENGTH, other) - 1
+    short = [deadline(Curve("straight", (each,)), LENGTH) for each in (fast, slow)]
+    if held(LENGTH) * WHOLE % other == 0 or short != [other, other + 1]:
         stop("the page's words on rounding don't hold")
-    exact = SPEECH * WHOLE * 10 // OTHER_LINE
-    for curve, length in ((QUICK, PAYLOAD), (FRAMED, LENGTH)):
-        check_stream(curve, length, ticks(SOON))
-    check_stream(STRAIGHT, PAYLOAD, PERIOD)
-    late = ticks(SOON) + LONGEST
+    exact = held(LENGTH) * WHOLE * 10 // other
+    check_stream(QUICK, LENGTH, ticks(SOON))
+    check_stream(STRAIGHT, LENGTH, PERIOD)
+    late = ticks(SOON) + LATE
+    behind = deadline(BARE, LENGTH)
+    if behind <= PERIOD:
+        stop("the page's words on a rate without headers and framing don't hold")
     shares, turns = (49152, 16384), 400
     got = fair_turns(shares, 1000, turns)
-    bytes_a_packet = whole(WHOLE, STRAIGHT.numbers[0])
     return [
         f"A line of {comma(LINE)} kbit/s sends {comma(bits)} bits a second. That is {comma(second)} bytes, so a second has {comma(second)} ticks.",
         f"A millisecond has {ticks(1)}.",
         f"{comma(WHOLE)} parts are one byte",
         f"at {comma(LINE)} kbit/s after {hours(2**32)}",
-        f"{LONGEST:,} ticks are {ms(LONGEST)} ms at {comma(LINE)} kbit/s",
+        f"{comma(LATE)} ticks are {ms(LATE)} ms at {comma(LINE)} kbit/s",
         f"shares of {comma(shares[0])} and {comma(shares[1])}, and packets of {comma(1000)} bytes always waiting in both: of the first {turns} departures {got[0]} and {got[1]} are theirs",
-        f"| {SPEECH} kbit/s of speech | {SPEECH} / {comma(LINE)} × {comma(WHOLE)} | {comma(parts(SPEECH))} parts |",
-        f"| {EVERY} ms | {EVERY} × {ticks(1)} | {comma(PERIOD)} ticks |",
         f"| {EVERY} ms of speech | {comma(SPEECH * 1000)} bit/s × {EVERY / 1000} s / 8 | {PAYLOAD} bytes |",
-        f"| one packet in {EVERY} ms, as a rate | {PAYLOAD} × {comma(WHOLE)} / {comma(PERIOD)} | {comma(up(PAYLOAD * WHOLE, PERIOD))} parts |",
-        f"| `{spelled(STRAIGHT)}` | {comma(deadline(STRAIGHT, PAYLOAD))} | {ms(deadline(STRAIGHT, PAYLOAD))} ms |",
-        f"| `{spelled(QUICK)}` | {comma(deadline(QUICK, PAYLOAD))} | {ms(deadline(QUICK, PAYLOAD))} ms |",
-        f"{SOON} ms are {comma(ticks(SOON))} ticks, and {PAYLOAD} × {comma(WHOLE)} / {comma(ticks(SOON))} = {comma(QUICK.numbers[0])} parts",
-        f"The front-loaded one gives the packet in {ms(deadline(QUICK, PAYLOAD))} ms",
+        f"| with IPv4, UDP and RTP, {HEADERS} bytes: the packet's length | {PAYLOAD} + {HEADERS} | {LENGTH} bytes |",
+        f"| with its framing: what it counts for | {LENGTH} + {AROUND} | {held(LENGTH)} bytes |",
+        f"| {EVERY} ms | {EVERY} × {ticks(1)} | {comma(PERIOD)} ticks |",
+        f"| one packet in {EVERY} ms, as a rate | {held(LENGTH)} × {comma(WHOLE)} / {comma(PERIOD)} | {comma(STRAIGHT.numbers[0])} parts |",
+        f"the least whole tick at which the curve has given {held(LENGTH)} bytes",
+        f"| `{spelled(STRAIGHT)}` | {comma(deadline(STRAIGHT, LENGTH))} | {ms(deadline(STRAIGHT, LENGTH))} ms |",
+        f"| `{spelled(QUICK)}` | {comma(deadline(QUICK, LENGTH))} | {ms(deadline(QUICK, LENGTH))} ms |",
+        f"{SOON} ms are {comma(ticks(SOON))} ticks, and {held(LENGTH)} × {comma(WHOLE)} / {comma(ticks(SOON))} = {comma(QUICK.numbers[0])} parts",
+        f"The front-loaded one gives the packet in {ms(deadline(QUICK, LENGTH))} ms",
         f"each is due no later than {comma(ticks(SOON))} ticks after it comes",
         f"has left in full {comma(late)} ticks after it came at the latest, which is {ms(late)} ms",
-        f"With IPv4, UDP and RTP, {HEADERS} bytes, it is {LENGTH} bytes. Then the rate is {LENGTH} × {comma(WHOLE)} / {comma(PERIOD)} = {comma(FRAMED.numbers[2])} parts, and the curve is `{spelled(FRAMED)}`",
-        f"On a line of {comma(OTHER_LINE)} kbit/s, {SPEECH} kbit/s are {comma(exact // 10)}.{exact % 10} parts. Take {comma(fast)}: then {PAYLOAD} bytes are due at tick {comma(short[0])}, which is {EVERY} ms there. "
-        f"With {comma(slow)} they are due at {comma(short[1])}",
-        f"`{spelled(STRAIGHT)}` gives a byte in {bytes_a_packet} ticks",
-        f"`{spelled(QUICK)}` gives a byte in {whole(WHOLE, QUICK.numbers[0])} ticks up to tick {comma(QUICK.numbers[1])}, then a byte in {whole(WHOLE, QUICK.numbers[2])}",
-        f"`{spelled(DELAYED)}` gives nothing up to tick {comma(DELAYED.numbers[0])}, then a byte in {whole(WHOLE, DELAYED.numbers[1])} ticks",
-        f"A first packet of {ORDER} bytes that comes at tick 0 is eligible at tick {eligible(DELAYED)} and due at tick {comma(deadline(DELAYED, ORDER))}",
+        f"{SPEECH} kbit/s of speech alone are {SPEECH} / {comma(LINE)} × {comma(WHOLE)} = {comma(BARE.numbers[0])} parts. Under `{spelled(BARE)}` the first packet is due at tick {comma(behind)}, {ms(behind)} ms",
+        f"On a line of {comma(OTHER_LINE)} kbit/s, {EVERY} ms are {comma(other)} ticks, and {held(LENGTH)} bytes in that time are {comma(exact // 10)}.{exact % 10} parts. Take {comma(fast)}: then the packet is due at tick {comma(short[0])}. "
+        f"With {comma(slow)} it is due at {comma(short[1])}",
+        f"`{spelled(STRAIGHT)}` gives {in_a_ms(STRAIGHT.numbers[0])} bytes a millisecond",
+        f"`{spelled(QUICK)}` gives {in_a_ms(QUICK.numbers[0])} bytes a millisecond up to tick {comma(QUICK.numbers[1])}, then {in_a_ms(QUICK.numbers[2])}",
+        f"`{spelled(DELAYED)}` gives nothing up to tick {comma(DELAYED.numbers[0])}, then {in_a_ms(DELAYED.numbers[1])} bytes a millisecond",
+        f"A first packet of {ORDER} bytes, {held(ORDER)} with its framing, that comes at tick 0 is eligible at tick {eligible(DELAYED)} and due at tick {comma(deadline(DELAYED, ORDER))}",
     ]
 
 
@@ -259,30 +270,30 @@ def words_of_the_tree(tree):
     if refusal(tree):
         stop(f"the page's tree is refused: {refusal(tree)}")
     speech, control = [i for i, c in enumerate(tree) if c.curve.kind != "none"]
-    if tree[speech].curve != FRAMED or tree[control].curve != DELAYED:
+    if tree[speech].curve != QUICK or tree[control].curve != DELAYED:
         stop("the page's tree has other curves than its sums")
-    promised = [FRAMED, DELAYED]
+    promised = [QUICK, DELAYED]
     said = ["| at tick | speech | remote control | together | the line |\n|---|---|---|---|---|"]
-    for bend, whose in ((FRAMED.numbers[1], "the bend of speech"), (DELAYED.numbers[0], "the bend of remote control")):
+    for bend, whose in ((QUICK.numbers[1], "the bend of speech"), (DELAYED.numbers[0], "the bend of remote control")):
         has = [whole(amount(curve, bend), WHOLE) for curve in promised]
         said.append(f"| {comma(bend)}, {whose} | {has[0]} bytes | {has[1]} bytes | {sum(has)} bytes | {comma(bend)} bytes |")
     rates = [last_rate(curve) for curve in promised]
     said.append(f"| ever after, each tick | {comma(rates[0])} parts | {comma(rates[1])} parts | {comma(sum(rates))} parts | {comma(WHOLE)} parts |")
-    most = max(n for n in range(1, 60) if fit([FRAMED] * n + [DELAYED]))
-    asked = (most + 1) * FRAMED.numbers[0]
+    most = max(n for n in range(1, 60) if fit([QUICK] * n + [DELAYED]))
+    asked = (most + 1) * QUICK.numbers[0]
     if not asked > WHOLE:
         stop("the page's words on one speech leaf too many don't hold")
     said.append(f"Beside remote control {most} such speech leaves fit. With {most + 1} the first rates are {comma(asked)} together")
-    said.append(f"the last rates of speech are only {comma((most + 1) * FRAMED.numbers[2])}")
+    said.append(f"the last rates of speech are only {comma((most + 1) * QUICK.numbers[2])}")
     example = [Curve("front-loaded", (WHOLE, 1, 1)), Curve("straight", (1,))]
     if fit(example) or sum(map(last_rate, example)) > WHOLE:
         stop("01's last row on fit does not hold")
     copies = next(i for i, c in enumerate(tree) if i not in (0, speech, control) and i not in {c.parent for c in tree})
-    calls = ["start 0", f"arrive 0 {speech} {LENGTH}", "depart 0", f"arrive 0 {copies} 1500", f"depart {LENGTH}"]
+    calls = ["start 0", f"arrive 0 {speech} {LENGTH}", "depart 0", f"arrive 0 {copies} 1500", f"depart {held(LENGTH)}"]
     answers = [
         f"started {len(tree)}",
         "accepted number 0",
-        f"packet class {speech} number 0 length {LENGTH} rule real-time eligible {eligible(FRAMED)} deadline {deadline(FRAMED, LENGTH)}",
+        f"packet class {speech} number 0 length {LENGTH} rule real-time eligible {eligible(QUICK)} deadline {deadline(QUICK, LENGTH)}",
         "accepted number 0",
         f"packet class {copies} number 0 length 1500 rule fair",
     ]
@@ -295,14 +306,18 @@ def words_of_the_limits():
     """01's limits, where the page names them."""
     few, many = CLASSES
     return [
-        f"at most {comma(LONGEST)} ticks late",
+        f"at most {comma(LATE)} ticks late",
+        f"the {AROUND} ticks for which a packet holds the line beyond its bytes",
+        f"by IEEE 802.3, {BEFORE} bytes of preamble and start mark go before it, and a gap of {AFTER} byte-times after it",
+        f"counts for n + {AROUND} bytes",
         f"parts a tick, 1 to {comma(WHOLE)}; {comma(WHOLE)} is the whole line",
         f"{few} to {many} classes; class 0 is the root",
         f"at most {DEEPEST} steps below the root",
         f"packets of 1 to {comma(LONGEST)} bytes wait there, at most {ROOM}",
         f"among the children of its parent, 1 to {comma(WHOLE)}",
-        f"has left in full no later than {comma(LONGEST)} ticks after its deadline",
-        f"At the start it is free, or will be within {comma(LONGEST)} ticks",
+        f"has left in full no later than {comma(LATE)} ticks after its deadline",
+        f"A packet of n bytes holds it for n + {AROUND} ticks.",
+        f"At the start it is free, or will be within {comma(LATE)} ticks",
         f"There are {few} to {many} classes. Class 0 is `class 0 parent 0 share {WHOLE} none`.",
         f"No class is more than {DEEPEST} steps below class 0.",
         f"A share or a rate is 1 to {comma(WHOLE)}. A bend is 1 to {comma(LATEST_BEND)} ticks.",
@@ -333,7 +348,7 @@ def words_of_the_refusals():
         f"its length is not {listed(sorted(BODY.values()), 'or')}, it passes the total",
         "| 14 | 2^31 ticks or more have gone by since the last kept stamp",
         "| 15 | the clock would pass 2^40 ticks |",
-        "| 16 | the bytes accepted since the start would pass 2^40 |",
+        f"| 16 | the bytes accepted since the start, {AROUND} more than its length for each packet, would pass 2^40 |",
         f"{comma(longest)} bytes are enough for every tree",
         f"{hours(2**31)} at {comma(LINE)} kbit/s",
         f"after {days(2**40)} days at {comma(LINE)} kbit/s",
@@ -349,7 +364,7 @@ text { font: 14px sans-serif; fill: #222 } .small { font-size: 12px; fill: #444 
 .bluedot { fill: #1f5fa8 } .reddot { fill: #b3400a } .redtext { fill: #b3400a } .bluetext { fill: #1f5fa8 } .paletext { font-size: 12px; fill: #4a74a8 }
 """.strip()
 LEFT, TOP, WIDTH, HEIGHT = 80, 52, 620, 240
-TICKS, COUNT = 10240, 320
+TICKS, COUNT = 10240, 440
 
 
 def x(tick):
@@ -383,18 +398,18 @@ def note(tick, count, lines, kind="bluetext", anchor="start"):
 
 
 def slope(rate, before=""):
-    return [f"{before}{comma(rate)} parts a tick:", f"a byte in {whole(WHOLE, rate)} ticks"]
+    return [f"{before}{comma(rate)} parts a tick:", f"{in_a_ms(rate)} bytes a ms"]
 
 
 def draw(curve, length, title, others, notes):
-    """A curve, and where it reaches a packet's length."""
-    due, end = deadline(curve, length), TOP + HEIGHT
+    """A curve, and where it reaches what a packet counts for."""
+    due, end, count = deadline(curve, length), TOP + HEIGHT, held(length)
     body = [text(LEFT, 28, title, "title"), *axes(), *(path(other, "other") for other in others)]
     for bend in bend_of(curve):
         body += [line(x(bend), TOP, x(bend), end, "bend"), text(x(bend) + 6, TOP + 14, f"bend {comma(bend)}", "small")]
     body.append(path(curve, "curve"))
-    body += [line(LEFT, y(length), LEFT + WIDTH, y(length), "level"), text(LEFT + WIDTH - 4, y(length) + 17, f"a packet of {length} bytes", "small", "end")]
-    body += [line(x(due), y(length), x(due), end, "deadline"), dot(x(due), y(length), "reddot"), dot(x(0), y(0), "bluedot")]
+    body += [line(LEFT, y(count), LEFT + WIDTH, y(count), "level"), text(LEFT + WIDTH - 4, y(count) + 17, f"a packet of {length} bytes, {count} with framing", "small", "end")]
+    body += [line(x(due), y(count), x(due), end, "deadline"), dot(x(due), y(count), "reddot"), dot(x(0), y(0), "bluedot")]
     body.append(text(x(due) + 7, end - 10, f"deadline {comma(due)}, {ms(due)} ms", "redtext"))
     body += [words for each in notes for words in each]
     head = '<svg xmlns="http://www.w3.org/2000/svg" viewBox="0 0 740 345" width="740" height="345">'
@@ -404,12 +419,12 @@ def draw(curve, length, title, others, notes):
 def pictures():
     first, _, last = QUICK.numbers
     title = lambda curve: f"{curve.kind.capitalize()}: " + " / ".join(map(comma, curve.numbers))
-    flat_notes = [note(5700, 222, slope(last), anchor="end")]
-    quick_notes = [note(1500, 138, slope(first, "first ")), note(5900, 280, slope(last, "then ")), note(6300, 168, [f"the straight curve of {comma(last)}"], "paletext")]
-    late_notes = [note(1280, 12, ["nothing at first"], anchor="middle"), note(6200, 200, slope(DELAYED.numbers[1], "then "))]
+    flat_notes = [note(5700, 305, slope(last), anchor="end")]
+    quick_notes = [note(1500, 190, slope(first, "first ")), note(5900, 385, slope(last, "then ")), note(6300, 231, [f"the straight curve of {comma(last)}"], "paletext")]
+    late_notes = [note(1280, 16, ["nothing at first"], anchor="middle"), note(6400, 185, slope(DELAYED.numbers[1], "then "))]
     return {
-        "manual-straight.svg": draw(STRAIGHT, PAYLOAD, title(STRAIGHT), (), flat_notes),
-        "manual-front-loaded.svg": draw(QUICK, PAYLOAD, title(QUICK), (STRAIGHT,), quick_notes),
+        "manual-straight.svg": draw(STRAIGHT, LENGTH, title(STRAIGHT), (), flat_notes),
+        "manual-front-loaded.svg": draw(QUICK, LENGTH, title(QUICK), (STRAIGHT,), quick_notes),
         "manual-delayed.svg": draw(DELAYED, ORDER, title(DELAYED), (), late_notes),
     }
 
@@ -433,7 +448,7 @@ def check_said(page, said, tree_text):
             stop(f"not on docs/MANUAL.md: {words.strip()}")
     for words in sorted(map(flat, said), key=len, reverse=True):
         rest = rest.replace(words, " ")
-    given = {WHOLE, LATEST_BEND, *CLASSES, DEEPEST, LONGEST, ROOM, *REFUSALS, *BODY.values(), 2**32 - 1, 32, 31, 40} | set().union(*map(numbers, [*said, tree_text]))
+    given = {WHOLE, LATEST_BEND, *CLASSES, DEEPEST, LONGEST, LATE, AROUND, ROOM, *REFUSALS, *BODY.values(), 2**32 - 1, 32, 31, 40} | set().union(*map(numbers, [*said, tree_text]))
     for number in sorted(numbers(rest) - given):
         stop(f"docs/MANUAL.md has the number {comma(number)}, which is neither worked out nor document 01's")
 

@@ -10,7 +10,7 @@ from collections import namedtuple
 from pathlib import Path
 
 import curves
-from curves import dot, least, line, text
+from curves import dot, held, least, line, text
 
 REPO = Path(__file__).resolve().parent.parent
 LEAF, NUMBER = 3, 7  # the packet that the page follows: of speech, number 7
@@ -94,7 +94,7 @@ class Afternoon:
         """Eligible time and deadline of the leaf's head, for a leaf with a curve."""
         c, pieces, sent = self.tree[leaf], self.pieces[leaf], self.sent[leaf]
         delay = c.numbers[0] if c.kind == 3 else 0
-        return Times(leaf, reached(c, pieces, sent, delay), reached(c, pieces, sent + self.queues[leaf][0].length))
+        return Times(leaf, reached(c, pieces, sent, delay), reached(c, pieces, sent + held(self.queues[leaf][0].length)))
 
     def tick(self, stamp):
         self.now += (stamp - self.stamp) % 2**32
@@ -121,7 +121,7 @@ class Afternoon:
             leaf, rule = int(stored.split()[2]), "fair"
         packet, times = self.queues[leaf].pop(0), timed.get(leaf)
         self.left.append(Sent(self.now, leaf, packet, rule, times, list(self.pieces[leaf]), self.sent[leaf], eligible, self.head[leaf]))
-        self.sent[leaf] += packet.length if eligible else 0
+        self.sent[leaf] += held(packet.length) if eligible else 0
         self.head[leaf] = self.now
         said = f"packet class {leaf} number {packet.number} length {packet.length} rule {rule}"
         return said + (f" eligible {times.eligible} deadline {times.deadline}" if times else "")
@@ -205,7 +205,7 @@ def piece_path(panel, story, piece):
 
 def whole_afternoon(story, part):
     """All pieces, from the first call on."""
-    panel = Panel(80, 60, 880, 250, (0, 34000), (0, 2000))
+    panel = Panel(80, 60, 880, 250, (0, 34000), (0, 2200))
     out = [text(80, 30, f"All {len(story.pieces)} pieces of {NAMES[LEAF]}, from the first call on", "title")]
     out += panel.axes(4000, 200)
     out += [panel.path(piece_path(panel, story, piece), "piece") for piece in story.pieces[:-1]]
@@ -221,14 +221,14 @@ def whole_afternoon(story, part):
 
 
 def the_packet(story, panel):
-    """The pieces near the packet's times, and where they reach 65,536·c and 65,536·(c + n)."""
-    due = story.sent + story.packet.length
+    """The pieces near the packet's times, and where they reach 65,536·c and 65,536·(c + n + 20)."""
+    due = story.sent + held(story.packet.length)
     low = panel.top + panel.height
-    out = [text(80, panel.top - 22, f"Where the pieces reach what the packet asks for: number {NUMBER} of {NAMES[LEAF]}, {story.packet.length} bytes", "title")]
+    out = [text(80, panel.top - 22, f"Where the pieces reach what the packet asks for: number {NUMBER} of {NAMES[LEAF]}, {story.packet.length} bytes, {held(story.packet.length)} on the link", "title")]
     out += panel.axes(1000, 100)
     out += [panel.path(piece_path(panel, story, piece), "piece") for piece in story.pieces[:-1] if piece.start >= panel.ticks[0] - 4000]
     out.append(panel.path(piece_path(panel, story, story.pieces[-1]), "lowest"))
-    for level, words in [(story.sent, f"c = {comma(story.sent)}"), (due, f"c + n = {comma(due)}")]:
+    for level, words in [(story.sent, f"c = {comma(story.sent)}"), (due, f"c + n + {held(0)} = {comma(due)}")]:
         out.append(line(panel.left, panel.y(level), panel.left + panel.width, panel.y(level), "level"))
         out.append(text(panel.left + 8, panel.y(level) - 6, words))
     for tick, level, kind, colour, words in [
@@ -249,12 +249,13 @@ def notes(story, panel):
     out = [dot(x, y, "start"), text(x - 10, y - 12, f"piece {len(story.pieces)} starts:", "small", "end")]
     out.append(text(x - 10, y + 4, f"tick {comma(newest.start)}, {comma(newest.sent)} bytes", "small", "end"))
     heights = [standing(story.curve, piece, story.deadline) / 65536 for piece in story.pieces]
-    if max(heights) - min(heights) >= 0.1:
-        stop("the pieces are not as near to each other as the picture says")
-    x, y = panel.x(story.deadline) + 12, panel.y(story.sent + story.packet.length - 80)
-    words = [f"here all {len(heights)} pieces lie less than", "0.1 bytes from each other;", "the lowest decides"]
+    apart = max(heights) - min(heights)
+    if apart >= 0.2:
+        stop(f"the pieces are not as near to each other as the picture says: {apart} bytes")
+    x, y = panel.x(story.deadline) + 12, panel.y(story.sent + held(story.packet.length) - 80)
+    words = [f"here all {len(heights)} pieces lie less than", "0.2 bytes from each other;", "the lowest decides"]
     out += [text(x, y + 16 * k, part, "small") for k, part in enumerate(words)]
-    x, y = panel.x(newest.start) - 40, panel.y(story.sent + story.packet.length - 50)
+    x, y = panel.x(newest.start) - 40, panel.y(story.sent + held(story.packet.length) - 50)
     out.append(text(x, y, "the deadline curve: the lowest of the pieces", "bluetext"))
     return out
 
@@ -263,7 +264,7 @@ def strip(story, panel, top):
     """What the link sends in the panel's time, and where the packet is."""
     out = [text(panel.left - 6, top + 19, "the link", "small", "end"), text(panel.left - 6, top + 59, "the packet", "small", "end")]
     for sent in story.left:
-        start, end = max(sent.at, panel.ticks[0]), min(sent.at + sent.packet.length, panel.ticks[1])
+        start, end = max(sent.at, panel.ticks[0]), min(sent.at + held(sent.packet.length), panel.ticks[1])
         if start >= end:
             continue
         is_it = (sent.leaf, sent.packet.number) == (LEAF, NUMBER)
@@ -272,19 +273,19 @@ def strip(story, panel, top):
         if end - start > 900:
             out.append(text((panel.x(start) + panel.x(end)) / 2, top + 19, words, "small", "middle"))
     came, head, gone = panel.x(story.packet.came), panel.x(story.head), panel.x(story.sent_at)
-    end = panel.x(story.sent_at + story.packet.length)
+    end = panel.x(story.sent_at + held(story.packet.length))
     out.append(box(came, top + 40, head - came, 28, "mine"))
     out.append(text((came + head) / 2, top + 59, f"waits behind number {NUMBER - 1}", "small", "middle"))
     out += [box(head, top + 40, gone - head, 28, "other"), box(gone, top + 40, end - gone, 28, "itself")]
     out.append(text(came - 6, top + 59, f"comes at {comma(story.packet.came)}", "", "end"))
     out.append(text(head, top + 86, f"head of the queue at {comma(story.head)}", "", "end"))
-    out.append(text(gone, top + 106, f"leaves at {comma(story.sent_at)}, in full at {comma(story.sent_at + story.packet.length)}", "purpletext", "end"))
+    out.append(text(gone, top + 106, f"leaves at {comma(story.sent_at)}, in full at {comma(story.sent_at + held(story.packet.length))}", "purpletext", "end"))
     out.append(text(panel.left + panel.width / 2, top + 132, "ticks; one tick is the time the link takes for one byte", "small", "middle"))
     return out
 
 
 def draw(story):
-    panel = Panel(80, 400, 880, 280, (22000, 33000), (1150, 1850))
+    panel = Panel(80, 400, 880, 280, (22000, 33000), (1250, 2000))
     body = whole_afternoon(story, panel) + the_packet(story, panel) + notes(story, panel) + strip(story, panel, 715)
     head = '<svg xmlns="http://www.w3.org/2000/svg" viewBox="0 0 1000 860" width="1000" height="860">'
     return "\n".join([head, f"<style>{STYLE}</style>", '<rect width="1000" height="860" fill="white"/>', *body, "</svg>", ""])
@@ -295,7 +296,7 @@ def draw(story):
 
 def tables(story):
     """The tables of the page: each piece with when it reaches what is asked, and the leaves that contend."""
-    due = story.sent + story.packet.length
+    due = story.sent + held(story.packet.length)
     rows = [f"| piece | starts at b | bytes sent before, c | reaches {comma(story.sent)} bytes | reaches {comma(due)} bytes |", "|---|---|---|---|---|"]
     for k, piece in enumerate(story.pieces, 1):
         ticks = [least(piece.start, lambda t: standing(story.curve, piece, t) >= 65536 * count) for count in (story.sent, due)]

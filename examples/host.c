@@ -36,7 +36,7 @@ int main(void) {
     printf("start: %" PRIu32 " class %" PRIu32 " bytes %" PRIu64 "\n", refusal, fault, seen[0]);
     for (uint32_t leaf = 3; leaf < 8; leaf++)
         printf("arrive: %" PRIu32 "\n", hfsc_arrive(words, lengths, stamp, leaf, 200 * leaf, &number));
-    for (; hfsc_depart(words, lengths, stamp, out) == 0 && out[HFSC_LEAVES]; stamp += out[HFSC_LENGTH])
+    for (; hfsc_depart(words, lengths, stamp, out) == 0 && out[HFSC_LEAVES]; stamp += out[HFSC_LENGTH] + HFSC_FRAMING)
         printf("tick %" PRIu64 ": class %" PRIu64 " number %" PRIu64 " length %" PRIu64 " rule %" PRIu64 " deadline %" PRIu64 "\n",
                hfsc_clock(words, lengths), out[HFSC_LEAF], out[HFSC_NUMBER], out[HFSC_LENGTH], out[HFSC_RULE], out[HFSC_DEADLINE]);
     // a root and one leaf, with a straight curve

@@ -5,6 +5,15 @@
 use crate::curves::{least_from, PARTS};
 use crate::tree::Tree;
 
+/// Request 2: 8 bytes of preamble and start mark before a packet, a gap of 12 byte-times after it.
+const AROUND: u128 = 8 + 12;
+
+/// The ticks for which a packet of n bytes holds the link. Every count of bytes sent, every deadline and virtual time and the limit of accepted bytes
+/// use it in the place of n.
+pub fn held(n: u128) -> u128 {
+    n + AROUND
+}
+
 #[derive(Clone, Copy, Debug, PartialEq, Eq)]
 pub enum Rule {
     RealTime,
@@ -120,11 +129,11 @@ impl History {
     }
 
     pub fn accepted_bytes(&self) -> u128 {
-        let length = |event: &Event| match event.deed {
-            Deed::Came { length, .. } => length,
+        let bytes = |event: &Event| match event.deed {
+            Deed::Came { length, .. } => held(length),
             _ => 0,
         };
-        self.events.iter().map(length).sum()
+        self.events.iter().map(bytes).sum()
     }
 
     // The real-time side.
@@ -132,7 +141,7 @@ impl History {
     /// c: the bytes sent from a leaf by the real-time rule.
     pub fn sent_by_real_time(&self, leaf: usize) -> u128 {
         let counts = |&(from, _, rule): &(usize, u128, Rule)| from == leaf && rule == Rule::RealTime;
-        self.all_left().filter(counts).map(|(_, length, _)| length).sum()
+        self.all_left().filter(counts).map(|(_, length, _)| held(length)).sum()
     }
 
     /// The pieces of a leaf: a backlog instant whenever a packet is accepted while none waits.
@@ -149,7 +158,7 @@ impl History {
                 Deed::Left { leaf: from, length, rule } if from == leaf => {
                     waiting -= 1;
                     if rule == Rule::RealTime {
-                        c += length;
+                        c += held(length);
                     }
                 }
                 _ => {}
@@ -171,7 +180,7 @@ impl History {
     /// The deadline of a leaf's head; none without a curve or a head.
     pub fn deadline(&self, leaf: usize) -> Option<u128> {
         let head = self.head(leaf)?;
-        self.least_over_pieces(leaf, 0, self.sent_by_real_time(leaf) + head.length)
+        self.least_over_pieces(leaf, 0, self.sent_by_real_time(leaf) + held(head.length))
     }
 
     /// The eligible time of a leaf's head; none without a curve or a head.
@@ -199,7 +208,7 @@ impl History {
     /// w: the bytes sent from a class and all below it, by either rule.
     pub fn sent(&self, class: usize) -> u128 {
         let beneath = |&(leaf, _, _): &(usize, u128, Rule)| self.tree.is_at_or_above(class, leaf);
-        self.all_left().filter(beneath).map(|(_, length, _)| length).sum()
+        self.all_left().filter(beneath).map(|(_, length, _)| held(length)).sum()
     }
 
     /// The mark of a class: where the last of its children to turn active started, 0 at first.
@@ -371,7 +380,7 @@ mod tests {
                 each.max().unwrap().max(last)
             };
             let n = h.head(leaf).unwrap().length;
-            assert_eq!(h.deadline(leaf), Some(tick(0, c + n)));
+            assert_eq!(h.deadline(leaf), Some(tick(0, c + n + 20)));
             assert_eq!(h.eligible_time(leaf), Some(tick(curve.eligible_lead(), c)));
         }
     }
@@ -424,10 +433,10 @@ mod tests {
         for leaf in [1, 2, 2, 2] {
             state.arrive(0, leaf, 100).unwrap();
         }
-        state.depart(0).unwrap(); // leaf 1 (lowest number), empties at 100·65,536
-        assert_eq!(state.history.virtual_time(1), 6_553_600);
+        state.depart(0).unwrap(); // leaf 1 (lowest number), empties at 120·65,536
+        assert_eq!(state.history.virtual_time(1), 7_864_320);
         state.arrive(0, 1, 100).unwrap();
         assert_eq!(state.history.mark(0), 0);
-        assert_eq!(state.history.virtual_time(1), 6_553_600);
+        assert_eq!(state.history.virtual_time(1), 7_864_320);
     }
 }

@@ -1,4 +1,4 @@
-//! Document 01's example tree and all rows of its table, and the rows on stamps.
+//! Document 01's example tree and all rows of its table, worked again by hand for request 2 (docs/notes/02-framing.md), and the rows on stamps.
 
 use outside::calls::{Departure, Packet, State};
 use outside::curves::Curve;
@@ -19,12 +19,12 @@ fn depart(state: &mut State, stamp: u32) -> Packet {
     packet
 }
 
-/// Both wait at 0, and leave at 0 and 500.
+/// Both wait at 0, and leave at 0 and 520, as soon as the link is free.
 fn both_sent() -> State {
     let mut state = started();
     state.arrive(0, 1, 500).unwrap();
     state.arrive(0, 2, 1_000).unwrap();
-    let (first, second) = (depart(&mut state, 0), depart(&mut state, 500));
+    let (first, second) = (depart(&mut state, 0), depart(&mut state, 520));
     assert_eq!((first.class, first.rule), (1, Rule::RealTime));
     assert_eq!((second.class, second.rule), (2, Rule::RealTime));
     state
@@ -34,26 +34,26 @@ fn both_sent() -> State {
 fn first_packets() {
     let mut state = started();
     assert_eq!(state.arrive(0, 1, 500), Ok(0));
-    assert_eq!(times(&state, 1), (0, 1_000));
+    assert_eq!(times(&state, 1), (0, 1_040));
     let mut state = started();
     assert_eq!(state.arrive(0, 2, 1_000), Ok(0));
-    assert_eq!(times(&state, 2), (0, 4_000));
+    assert_eq!(times(&state, 2), (0, 4_040));
 }
 
 #[test]
 fn both_wait() {
     let state = both_sent();
-    assert_eq!((state.history.virtual_time(1), state.history.virtual_time(2)), (2_000, 1_334));
+    assert_eq!((state.history.virtual_time(1), state.history.virtual_time(2)), (2_080, 1_360));
 }
 
 #[test]
 fn then_leaf_1_at_5000_or_at_600() {
     let mut state = both_sent();
     state.arrive(5_000, 1, 500).unwrap();
-    assert_eq!(times(&state, 1), (5_000, 6_000));
+    assert_eq!(times(&state, 1), (5_000, 6_040));
     let mut state = both_sent();
     state.arrive(600, 1, 500).unwrap();
-    assert_eq!(times(&state, 1), (1_000, 2_000));
+    assert_eq!(times(&state, 1), (1_040, 2_160));
 }
 
 #[test]
@@ -62,7 +62,7 @@ fn leaf_2_again_at_1000() {
     state.arrive(0, 2, 1_000).unwrap();
     assert_eq!(depart(&mut state, 0).rule, Rule::RealTime);
     state.arrive(1_000, 2, 1_000).unwrap();
-    assert_eq!(times(&state, 2), (2_000, 6_000));
+    assert_eq!(times(&state, 2), (2_040, 6_080));
 }
 
 #[test]
@@ -71,10 +71,28 @@ fn leaf_1_alone_with_three() {
     for number in 0..3 {
         assert_eq!(state.arrive(0, 1, 500), Ok(number));
     }
-    let left = [depart(&mut state, 0), depart(&mut state, 500), depart(&mut state, 1_000)];
+    let left = [depart(&mut state, 0), depart(&mut state, 520), depart(&mut state, 1_040)];
     assert_eq!(left.map(|packet| packet.rule), [Rule::RealTime, Rule::Fair, Rule::RealTime]);
     assert_eq!(left.map(|packet| packet.number), [0, 1, 2]);
-    assert_eq!(left[2].times, Some((1_000, 2_000)));
+    assert_eq!(left[2].times, Some((1_040, 2_160)));
+}
+
+/// At 01's own ticks, 500 and 1,000, the link would still send. The definitions then give the same for the two, and a third packet by the fair rule.
+#[test]
+fn at_the_ticks_of_01() {
+    let mut state = started();
+    state.arrive(0, 1, 500).unwrap();
+    state.arrive(0, 2, 1_000).unwrap();
+    let left = [depart(&mut state, 0), depart(&mut state, 500)];
+    assert_eq!(left.map(|packet| (packet.class, packet.rule)), [(1, Rule::RealTime), (2, Rule::RealTime)]);
+    assert_eq!((state.history.virtual_time(1), state.history.virtual_time(2)), (2_080, 1_360));
+    let mut state = started();
+    for _ in 0..3 {
+        state.arrive(0, 1, 500).unwrap();
+    }
+    let left = [depart(&mut state, 0), depart(&mut state, 500), depart(&mut state, 1_000)];
+    assert_eq!(left.map(|packet| packet.rule), [Rule::RealTime, Rule::Fair, Rule::Fair]);
+    assert_eq!(left[2].times, Some((1_040, 2_160)));
 }
 
 #[test]
@@ -83,7 +101,7 @@ fn both_passive_then_active_again() {
     assert_eq!((state.history.active(1), state.history.active(2)), (false, false));
     state.arrive(600, 2, 1_000).unwrap();
     state.arrive(600, 1, 500).unwrap();
-    assert_eq!((state.history.virtual_time(1), state.history.virtual_time(2)), (2_000, 2_000));
+    assert_eq!((state.history.virtual_time(1), state.history.virtual_time(2)), (2_080, 2_080));
 }
 
 #[test]
@@ -117,10 +135,10 @@ fn stamps() {
 #[test]
 fn as_lines() {
     let file = outside::file::file_of(&tree_a(), outside::file::Order::Little);
-    let printed = outside::calls::replay(&file, b"start 7\narrive 7 1 500\narrive 7 2 1000\ndepart 7\ndepart 507\ndepart 600\n");
+    let printed = outside::calls::replay(&file, b"start 7\narrive 7 1 500\narrive 7 2 1000\ndepart 7\ndepart 527\ndepart 1547\n");
     let expected = "started 3\naccepted number 0\naccepted number 0\n\
-        packet class 1 number 0 length 500 rule real-time eligible 0 deadline 1000\n\
-        packet class 2 number 0 length 1000 rule real-time eligible 0 deadline 4000\nnone waits\n";
+        packet class 1 number 0 length 500 rule real-time eligible 0 deadline 1040\n\
+        packet class 2 number 0 length 1000 rule real-time eligible 0 deadline 4040\nnone waits\n";
     assert_eq!(printed.printed, expected);
     let tree = "tree\nclass 0 parent 0 share 65536 none\nclass 1 parent 0 share 16384 front-loaded 32768 2000 16384\n\
         class 2 parent 0 share 49152 delayed 2000 32768\n";

@@ -1,4 +1,4 @@
-//! Demand 3 on runs that keep the link's discipline: no head leaves in full later than 9,000 ticks after its deadline.
+//! Demand 3 on runs that keep the link's discipline: no head leaves in full later than 9,020 ticks after its deadline (request 2), on a link that a packet of n bytes holds for n + 20 ticks.
 
 use outside::calls::{parse_line, Call, Departure, Packet, State};
 use outside::curves::Curve;
@@ -31,7 +31,7 @@ impl Checker {
         let history = &self.state.history;
         for leaf in history.waiting_leaves() {
             if let (Some(head), Some(deadline)) = (history.head(leaf), history.deadline(leaf)) {
-                assert!(history.clock() + head.length <= deadline + 9_000);
+                assert!(history.clock() + head.length + 20 <= deadline + 9_020);
             }
         }
     }
@@ -39,10 +39,10 @@ impl Checker {
     fn packet_left(&mut self, packet: Packet) {
         let now = self.state.history.clock();
         assert!(self.link_free <= now);
-        self.link_free = now + packet.length;
+        self.link_free = now + packet.length + 20;
         if let Some((_, deadline)) = packet.times {
             let late = self.link_free as i128 - deadline as i128;
-            assert!(late <= 9_000, "{late} ticks late");
+            assert!(late <= 9_020, "{late} ticks late");
             self.met.packets_with_curve += 1;
             self.met.by_deadline += usize::from(late <= 0);
             self.met.latest = self.met.latest.max(late);
@@ -83,7 +83,7 @@ fn check(tree: &Tree, lines: &[String]) -> Met {
 }
 
 #[test]
-fn no_head_is_later_than_9000_ticks() {
+fn no_head_is_later_than_9020_ticks() {
     let (mut runs, mut packets, mut by_deadline, mut latest) = (0, 0, 0, i128::MIN);
     for seed in 0..1_500 {
         let mut dice = Dice::new(50_000 + seed);
@@ -98,15 +98,15 @@ fn no_head_is_later_than_9000_ticks() {
     assert!(packets > 10_000 && latest > 8_000);
 }
 
-/// A leaf without a curve sends 9,000 at 0, then a straight 65,536 leaf gets a packet at 0.
+/// A leaf without a curve sends 9,000 at 0, until 9,020; then a straight 65,536 leaf gets a packet at 0.
 #[test]
 fn the_bound_is_attained() {
     let leaf = |curve| Class { parent: 0, share: 1, curve };
     let tree = Tree::under_root(&[leaf(Curve::None), leaf(Curve::Straight { m: 65_536 })]);
     for length in [1, 500, 9_000] {
-        let calls = ["start 3", "arrive 3 1 9000", "depart 3", &format!("arrive 3 2 {length}"), "depart 9003"];
+        let calls = ["start 3", "arrive 3 1 9000", "depart 3", &format!("arrive 3 2 {length}"), "depart 9023"];
         let met = check(&tree, &calls.map(String::from));
-        assert_eq!((met.packets_with_curve, met.latest), (1, 9_000));
+        assert_eq!((met.packets_with_curve, met.latest), (1, 9_020));
     }
 }
 

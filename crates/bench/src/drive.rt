@@ -6,14 +6,15 @@ use state::table::Lengths;
 use state::table::Words;
 ghost use Rattle.state.specs.State.{Reached};
 
-// The tree; the generator's last number; the last stamp; the packet that left last; the sums.
+// The tree; the generator's last number; the last stamp; the packet that left last, its leaf and the ticks
+// that it holds the link; the sums.
 pub struct Tally {
     pub above: u8,
     pub leaves: u8,
     pub seed: u32,
     pub stamp: u32,
     pub class: u32,
-    pub length: u32,
+    pub ticks: u32,
     pub left: u64,
     pub sum: u64,
     pub mix: u64,
@@ -35,7 +36,7 @@ fn noted(run: Tally, number: u64) -> Tally {
 fn noted_packet(run: Tally, packet: Packet) -> Tally {
     let mut then = noted(noted(run, packet.class as u64), packet.number);
     then.class = packet.class;
-    then.length = packet.length;
+    then.ticks = (rules::weigh(packet.length) % 4294967296) as u32;
     then.left = std::num::wrapping_add_u64(run.left, 1);
     let rule = packet.rule;
     if let Rule::RealTime = rule {
@@ -70,7 +71,7 @@ fn departs(words: &mut Words, lengths: &mut Lengths, run: Tally) -> Tally
     ensures { λ r. ⌜ Reached (now (words .exit)) (now (lengths .exit)) ⌝ }
 {
     let mut then = run;
-    then.stamp = std::num::wrapping_add_u32(run.stamp, run.length);
+    then.stamp = std::num::wrapping_add_u32(run.stamp, run.ticks);
     let answer = sched::depart(words, lengths, then.stamp);
     if let rules::Departure::Leaves { packet } = answer {
         return noted_packet(then, packet);

@@ -50,19 +50,19 @@ fn above() -> u8 {
     0
 }
 
-// At the end of all bytes: which of these lengths is refused, and with which number. 5,776 bytes are left of 2^40 after
-// as many packets of 9,000 as fit.
+// At the end of all bytes: which of these lengths is refused, and with which number. 2,256 bytes are left of 2^40 after
+// as many packets of 9,000 as fit, of 9,020 each: room for one of 2,236.
 fn print_full(words: &mut Words, lengths: &mut Lengths, run: drive::Tally)
     requires { ⌜ Reached (now words) (now lengths) ⌝ }
 {
     print(b"9000: ", drive::offered(words, lengths, run, 9000) as u64);
     print(
-        b", 5777: ",
-        drive::offered(words, lengths, run, 5777) as u64,
+        b", 2237: ",
+        drive::offered(words, lengths, run, 2237) as u64,
     );
     print(
-        b", 5776: ",
-        drive::offered(words, lengths, run, 5776) as u64,
+        b", 2236: ",
+        drive::offered(words, lengths, run, 2236) as u64,
     );
     print(b", 1: ", drive::offered(words, lengths, run, 1) as u64);
     io::write_all(libc::STDOUT_FILENO, b"\n");
@@ -81,7 +81,7 @@ fn main() {
         seed: number_at(5),
         stamp: 0,
         class: 0,
-        length: 0,
+        ticks: 0,
         left: 0,
         sum: 0,
         mix: 0,

@@ -24,7 +24,7 @@ use Rattle.rules.specs.Lawful.{Grown, right}
 use Rattle.rules.proofs.Tests.{never, decided, is-false}
 use Rattle.rules.proofs.Trees.{leaf-class, a-child, parent-lower, within-up, within-cases, within-at-root, within-self, within-le, within-parent}
 use Rattle.rules.proofs.Queues.{waits-leaf, head-length}
-use Rattle.rules.proofs.Sent.{w-most}
+use Rattle.rules.proofs.Sent.{weigh-small, w-most}
 use Rattle.rules.proofs.Fair.{sent-left, sent-left-other}
 use Rattle.state.specs.Table.{at, with, CLASSES, CELLS}
 use Rattle.state.specs.Columns.{PARENT, SHARE, SENT, FAIR-START, FAIR-SENT, VIRTUAL, MARK, ACTIVE, fairFrom}
@@ -33,7 +33,6 @@ use Rattle.fair.specs.Steps.{BeforeRaise, AfterRaise}
 use Rattle.fair.specs.StepsWaking.{Raises, VirtualStored}
 use Rattle.fair.specs.StepsResting.{BeforeLifting, AfterLifting}
 use Rattle.state.proofs.Cells.{length-with, at-with-same, at-with-class, at-with-column}
-use Rattle.state.proofs.LeafCells.{weigh-small}
 use Rattle.fair.proofs.RestingSteps.{planted-with}
 use Rattle.fair.proofs.RestingFair.{pieces-left, mark-left, root-virtual, share-right, kept-start-most, virtual-after}
 

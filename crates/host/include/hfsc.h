@@ -10,11 +10,14 @@
  * - no other thread uses the arrays during a call.
  *
  * One tick is the time the link takes for one byte. A stamp is a 32-bit counter of ticks that comes round to zero; a start takes the first one.
+ * A packet of n bytes holds the link for n + HFSC_FRAMING ticks: 8 bytes of preamble and start mark go before it, and a gap of 12 byte-times after
+ * it. So the host asks for the next packet that many ticks after one left. Bytes sent and accepted, and so eligible times, deadlines, virtual
+ * times and refusal 16, count a packet for n + HFSC_FRAMING. Lengths that are given and told, and refusal 12, are n, without it.
  * start, end, write, arrive and depart answer 0, or the number of the refusal:
  *    1 file under 16 bytes                    7 a class's parent, share, kind or numbers  13 64 already wait in that leaf
  *    2 no mark at the file's start            8 depth over 8                              14 2^31 ticks or more since the last kept stamp
  *    3 version is not 1                       9 real-time curve on a class with children  15 clock would pass 2^40
- *    4 count outside 2 to 64                 10 the real-time curves don't fit the link   16 accepted bytes would pass 2^40
+ *    4 count outside 2 to 64                 10 the real-time curves don't fit the link   16 accepted bytes would pass 2^40 (framing counted)
  *    5 total or contents                     11 no such class, or not a leaf              17 the buffer is too small for the file
  *    6 a body's place or length              12 length outside 1 to 9,000
  * A refused start gives a state of no classes. A refused arrival or departure changes neither array, a refused write no byte of `out`.
@@ -28,6 +31,9 @@
 #ifdef __cplusplus
 extern "C" {
 #endif
+
+/* What a packet holds the link for beyond its length, in ticks. */
+enum { HFSC_FRAMING = 20 };
 
 /* The state's two arrays, the bytes of the longest right class-tree file, and what is kept of a file that comes in bursts. */
 enum { HFSC_WORDS = 1536, HFSC_LENGTHS = 4096, HFSC_FILE = 2052, HFSC_KEPT = HFSC_FILE };
@@ -80,7 +86,7 @@ enum {
     HFSC_LEAVES,   /* 1 where a packet leaves; 0 where none waits, and on a refusal */
     HFSC_LEAF,     /* its class */
     HFSC_NUMBER,   /* its number within the leaf, from 0 */
-    HFSC_LENGTH,   /* its length in bytes */
+    HFSC_LENGTH,   /* its length in bytes; it holds the link for HFSC_FRAMING ticks more */
     HFSC_RULE,     /* 1 by the real-time rule, 2 by the fair rule */
     HFSC_TIMED,    /* 1 where the leaf has a real-time curve: then the two times */
     HFSC_ELIGIBLE, /* the tick from which the real-time rule could take it */

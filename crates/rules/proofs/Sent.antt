@@ -26,15 +26,19 @@ use Rattle.rules.proofs.Trees.{leaf-class, within-self, within-top, wit
 use Rattle.rules.proofs.Queues.{queue-came, queue-came-other, queue-left, queue-left-other, queue-idle, waits-leaf}
 use Rattle.rules.proofs.Active.{choice-waits, choice-leaf}
 
--- what a packet counts for
+-- what a packet counts for: nothing else looks into `weigh`, but the table of rows and the runs, which have to compute
 
 pub weigh-some : (n : ℕ) → 1 ≤ n → 1 ≤ weigh n
 unfolding weigh
-weigh-some n h = h
+weigh-some n h = omega arith
 
 pub weigh-most : (n : ℕ) → n ≤ longest → weigh n ≤ weigh longest
 unfolding weigh
-weigh-most n h = h
+weigh-most n h = omega (arith, h)
+
+pub weigh-small : (n : ℕ) → n ≤ longest → weigh n ≤ mostBytesAccepted
+unfolding weigh
+weigh-small n h = omega arith
 
 -- "clock, and total bytes accepted: each at most 2^40"
 

@@ -39,7 +39,7 @@ departureChecks cs elapsed =
 --   11: "class number absent, or not a leaf"
 --   12: "packet length outside 1 to 9,000"
 --   13: "64 already wait in that leaf"
---   16: "accepted bytes would pass 2^40"
+--   16: "accepted bytes would pass 2^40", where bytes are what packets count for (document 02, request 2); 12 stays with n
 abbrev pub leafChecks : Tree → List Call → (j n : ℕ) → List Check
 leafChecks tree cs j n =
     record { number = 11; fails = not (isLeaf tree j) }

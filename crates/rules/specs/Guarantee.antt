@@ -1,4 +1,5 @@
--- The guarantee, in the customer's words: no packet of a leaf with a real-time curve is later than 9,000 ticks after its deadline.
+-- The guarantee, in the customer's words: no packet of a leaf with a real-time curve is later than 9,020 ticks after its deadline, by document 02,
+-- request 2; in the definitions that number is `heaviest`.
 -- Assumes nothing.
 use Prim.Native.Nat.{ℕ, _+_, _≤_, _<_}
 use mathlib.Core.Path.{_≡_}
@@ -32,7 +33,8 @@ pub record Head (tree : Tree) (cs : List Call) (j number n deadline : ℕ) : Typ
   pub isLength : headLength cs j ≡ n
   pub isDeadline : DeadlineOf tree cs j deadline
 
--- "that packet has left, in full no later than" a tick: it left at some tick `at`, as the head of its leaf, and its last byte is sent by then
+-- "that packet has left, in full no later than" a tick: it left at some tick `at`, as the head of its leaf, and holds the link no longer than
+-- until then
 pub record LeftBy (cs : List Call) (j number n tick : ℕ) : Type 0 where
   pub at : ℕ
   pub rule : Rule
@@ -42,7 +44,7 @@ pub record LeftBy (cs : List Call) (j number n tick : ℕ) : Type 0 where
   pub isLength : headLength before j ≡ n
   pub full : at + weigh n ≤ tick
 
--- "if the history's clock reaches deadline + 9,000, that packet has left, in full no later than that tick", with `late` for 9,000
+-- "if the history's clock reaches deadline + 9,020, that packet has left, in full no later than that tick", with `late` for 9,020
 abbrev pub NoneLater : ℕ → Tree → List Call → Type 0
 NoneLater late tree cs =
     (past : List Call) → Moment past cs

@@ -40,7 +40,7 @@ pieces (came at k n ∷ cs) j =
 pieces (left at k r ∷ cs) j = pieces cs j
 pieces (idle at ∷ cs) j = pieces cs j
 
--- "Deadline: the least whole t, not before bm, at which every piece is at least 65,536·(c + n)"
+-- "Deadline: the least whole t, not before bm, at which every piece is at least 65,536·(c + n)", and for n what the packet counts for (document 02, request 2)
 abbrev pub DeadlineOf : Tree → List Call → ℕ → ℕ → Type 0
 DeadlineOf tree cs j t = Deadline (curveOf tree j) (pieces cs j) (sentRealTime cs j + weigh (headLength cs j)) t
 

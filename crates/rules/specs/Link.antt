@@ -10,9 +10,12 @@ use Rattle.rules.specs.Calls.{Call, came, left, idle}
 use Rattle.rules.specs.Clock.{clock}
 use Rattle.rules.specs.Queues.{waits, headLength}
 
--- the bytes that the longest packet counts for: 9,000
+-- what the longest packet counts for. "Demand 3 then reads 9,020 ticks, and its link sends for n + 20 ticks" (document 02, request 2): the theorem `heaviest-is`
 abbrev pub heaviest : ℕ
 heaviest = weigh longest
+
+abbrev pub HeaviestIs : Type 0
+HeaviestIs = heaviest ≡ 9020
 
 -- The link "sends one byte a tick", one packet after another: the tick at which it is free, where it is free at tick `r` after the start. A packet that
 -- leaves keeps it busy for as many ticks as it counts bytes, from its own tick on, or from the tick at which the link is free, if that is later.
@@ -37,7 +40,7 @@ pub record Keeps (r : ℕ) (cs : List Call) (c : Call) : Type 0 where
   pub asked : AskedFree r cs c
   pub passes : PassesNone r cs c
 
--- "a packet that leaves at" a tick "keeps the link busy until" that tick and its bytes: the theorem `busy-until`
+-- "a packet that leaves at" a tick "keeps the link busy until" that tick and what it counts for: the theorem `busy-until`
 abbrev pub BusyUntil : Type 0
 BusyUntil =
     (r at j : ℕ) (rule : Rule) (cs : List Call) → Keeps r cs (left at j rule) → free r (left at j rule ∷ cs) ≡ at + weigh (headLength cs j)

@@ -1,4 +1,5 @@
--- Document 01, "Example tree and its numbers": the rows marked P, all twelve, as one table, and what a row says.
+-- Document 01, "Example tree and its numbers": the rows marked P, all twelve, as one table, and what a row says. Document 02, request 2: "The worked rows of 01
+-- are to be worked again by hand." Each row has 01's words with its numbers worked again; docs/DEFINITIONS.md has 01's numbers beside them.
 -- Assumes nothing.
 use Prim.Native.Nat.{ℕ}
 use mathlib.Core.Path.{_≡_}
@@ -85,30 +86,30 @@ abbrev pub RowHolds : Row → Type 0
 RowHolds (situation cs rs) = Lawful (record { tree = treeA; first = 0; calls = cs }) × EveryResult cs rs
 RowHolds (curves S₁ S₂ answer) = FitHolds (S₁ ∷ S₂ ∷ []) answer × AnswerHolds (twoLeaves 32768 S₁ 32768 S₂) answer
 
--- "both wait; departures at 0 and 500: 1 then 2, real-time"
+-- "both wait; departures at 0 and 520: 1 then 2, real-time". 520 is the first tick at which the link is free again.
 abbrev pub bothLeft : List Call
-bothLeft = left 500 2 RealTime ∷ left 0 1 RealTime ∷ came 0 2 1000 ∷ came 0 1 500 ∷ []
+bothLeft = left 520 2 RealTime ∷ left 0 1 RealTime ∷ came 0 2 1000 ∷ came 0 1 500 ∷ []
 
 abbrev pub rows : List Row
 rows =
-    -- "leaf 1, first packet 500 at 0: eligible 0, deadline 1,000"
-    situation (came 0 1 500 ∷ []) (eligible 1 0 ∷ deadline 1 1000 ∷ [])
-    -- "leaf 2, first packet 1,000 at 0: eligible 0, deadline 4,000"
-    ∷ situation (came 0 2 1000 ∷ []) (eligible 2 0 ∷ deadline 2 4000 ∷ [])
-    -- "both wait; departures at 0 and 500: 1 then 2, real-time; virtual times 2,000 and 1,334"
-    ∷ situation bothLeft (virtual 1 2000 ∷ virtual 2 1334 ∷ [])
-    -- "then leaf 1 gets 500 at 5,000: eligible 5,000, deadline 6,000"
-    ∷ situation (came 5000 1 500 ∷ bothLeft) (eligible 1 5000 ∷ deadline 1 6000 ∷ [])
-    -- "instead leaf 1 gets 500 at 600: eligible 1,000, deadline 2,000"
-    ∷ situation (came 600 1 500 ∷ bothLeft) (eligible 1 1000 ∷ deadline 1 2000 ∷ [])
-    -- "leaf 2 first waits at 0, sent 1,000 by the real-time rule; gets 1,000 at 1,000: eligible 2,000, deadline 6,000"
-    ∷ situation (came 1000 2 1000 ∷ left 0 2 RealTime ∷ came 0 2 1000 ∷ []) (eligible 2 2000 ∷ deadline 2 6000 ∷ [])
-    -- "leaf 1 alone, three of 500 at 0; departures 0, 500, 1,000: real-time, fair, real-time; third's deadline 2,000"
+    -- "leaf 1, first packet 500 at 0: eligible 0, deadline 1,040"
+    situation (came 0 1 500 ∷ []) (eligible 1 0 ∷ deadline 1 1040 ∷ [])
+    -- "leaf 2, first packet 1,000 at 0: eligible 0, deadline 4,040"
+    ∷ situation (came 0 2 1000 ∷ []) (eligible 2 0 ∷ deadline 2 4040 ∷ [])
+    -- "both wait; departures at 0 and 520: 1 then 2, real-time; virtual times 2,080 and 1,360"
+    ∷ situation bothLeft (virtual 1 2080 ∷ virtual 2 1360 ∷ [])
+    -- "then leaf 1 gets 500 at 5,000: eligible 5,000, deadline 6,040"
+    ∷ situation (came 5000 1 500 ∷ bothLeft) (eligible 1 5000 ∷ deadline 1 6040 ∷ [])
+    -- "instead leaf 1 gets 500 at 600: eligible 1,040, deadline 2,160"
+    ∷ situation (came 600 1 500 ∷ bothLeft) (eligible 1 1040 ∷ deadline 1 2160 ∷ [])
+    -- "leaf 2 first waits at 0, sent 1,000 by the real-time rule; gets 1,000 at 1,000: eligible 2,040, deadline 6,080"
+    ∷ situation (came 1000 2 1000 ∷ left 0 2 RealTime ∷ came 0 2 1000 ∷ []) (eligible 2 2040 ∷ deadline 2 6080 ∷ [])
+    -- "leaf 1 alone, three of 500 at 0; departures 0, 520, 1,040: real-time, fair, real-time; third's deadline 2,160"
     ∷ situation
-    (left 500 1 Fair ∷ left 0 1 RealTime ∷ came 0 1 500 ∷ came 0 1 500 ∷ came 0 1 500 ∷ [])
-    (leaves 1000 1 RealTime ∷ deadline 1 2000 ∷ [])
-    -- "both passive at 2,000 and 1,334; leaf 2 then leaf 1 turn active: both at 2,000"
-    ∷ situation (came 2000 1 500 ∷ came 2000 2 500 ∷ bothLeft) (virtual 1 2000 ∷ virtual 2 2000 ∷ [])
+    (left 520 1 Fair ∷ left 0 1 RealTime ∷ came 0 1 500 ∷ came 0 1 500 ∷ came 0 1 500 ∷ [])
+    (leaves 1040 1 RealTime ∷ deadline 1 2160 ∷ [])
+    -- "both passive at 2,080 and 1,360; leaf 2 then leaf 1 turn active: both at 2,080"
+    ∷ situation (came 2000 1 500 ∷ came 2000 2 500 ∷ bothLeft) (virtual 1 2080 ∷ virtual 2 2080 ∷ [])
     -- "straight 32,768 and 32,768: fit"
     ∷ curves (Straight 32768) (Straight 32768) fit
     -- "straight 32,769 and 32,768: 10"

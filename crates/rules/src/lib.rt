@@ -17,6 +17,9 @@ pub const MOST_BYTES: u64 = 1099511627776;
 
 pub const TOO_FAR: u32 = 2147483648;
 
+// What the link sends around a packet: 8 bytes of preamble and start mark, and a gap of 12 byte-times.
+const FRAMING: u64 = 8 + 12;
+
 // The rule by which a packet leaves.
 pub enum Rule {
     RealTime,
@@ -51,11 +54,11 @@ pub enum Departure {
     Refused { why: Refusal },
 }
 
-// The bytes that a packet of this length counts for.
+// What a packet of this length counts for, in bytes and in ticks of the link: itself and its framing.
 pub fn weigh(length: u32) -> u64
     ensures { λ r. ⌜ r ≡ limits.weigh length ⌝ }
 {
-    length as u64
+    length as u64 + FRAMING
 }
 
 // The ticks from the last kept stamp to this one, by a counter that comes round to zero.

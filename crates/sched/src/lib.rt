@@ -109,7 +109,8 @@ fn admit(words: &Words, class: u32, length: u32) -> Admission
             why: Refusal::LeafFull,
         };
     }
-    if rules::MOST_BYTES < header(words, ACCEPTED) + rules::weigh(length) {
+    let bytes = rules::weigh(length);
+    if rules::MOST_BYTES < header(words, ACCEPTED) + bytes {
         return Admission::Refused {
             why: Refusal::BytesFull,
         };
@@ -215,8 +216,9 @@ fn take(words: &mut Words, lengths: &mut Lengths, class: usize, rule: Rule) -> P
     let times = times_of(words, class);
     put_length(lengths, class, number, 0);
     put(words, class, HEAD_NUMBER, number + 1);
-    count_bytes(words, class, rule, rules::weigh(length));
-    raise(words, class, rules::weigh(length));
+    let bytes = rules::weigh(length);
+    count_bytes(words, class, rule, bytes);
+    raise(words, class, bytes);
     settle(words, lengths, class, rule);
     let leaf = class as u32;
     Packet {

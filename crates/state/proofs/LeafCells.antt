@@ -21,7 +21,6 @@ use Rattle.tree.specs.declared.Tree.{Tree}
 use Rattle.tree.specs.Rules.{RightTree}
 use Rattle.tree.specs.Trees.{curveOf}
 use Rattle.tree.proofs.Right as right-tree
-use Rattle.rules.specs.Limits.{mostBytesAccepted, longest, weigh}
 use Rattle.rules.specs.Calls.{Call}
 use Rattle.rules.specs.Clock.{clock}
 use Rattle.rules.specs.Leaves.{pieces}
@@ -40,11 +39,6 @@ use Rattle.state.proofs.Cells.{length-with, at-with-same, at-with-class
 -- a store after others
 pub stored : (i f v : ℕ) {a b d : List ℕ} → a ≡ with b i f v → b ≡ d → a ≡ with d i f v
 stored i f v p q = p ∙ ap (λ (m : List ℕ). with m i f v) q
-
--- what a packet counts for is far below the limits
-pub weigh-small : (n : ℕ) → n ≤ longest → weigh n ≤ mostBytesAccepted
-unfolding weigh
-weigh-small n h = omega arith
 
 -- a class has no curve exactly where its kind is 0
 pub kind-none : (S : Curve) → codeOf S .kind ≡ 0 → hasCurve S ≡ false

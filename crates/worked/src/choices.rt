@@ -25,7 +25,7 @@ fn same_deadline(words: &mut Words, lengths: &mut Lengths) {
     arrives(words, lengths, 0, 2, 500);
     arrives(words, lengths, 0, 1, 500);
     departs(words, lengths, 0);
-    departs(words, lengths, 500);
+    departs(words, lengths, 520);
 }
 
 fn same_virtual(words: &mut Words, lengths: &mut Lengths) {
@@ -41,18 +41,18 @@ fn same_virtual(words: &mut Words, lengths: &mut Lengths) {
     arrives(words, lengths, 0, 1, 100);
     arrives(words, lengths, 0, 1, 101);
     departs(words, lengths, 0);
-    departs(words, lengths, 100);
-    departs(words, lengths, 200);
-    departs(words, lengths, 301);
-    departs(words, lengths, 402);
+    departs(words, lengths, 120);
+    departs(words, lengths, 240);
+    departs(words, lengths, 361);
+    departs(words, lengths, 482);
 }
 
-// Leaf 3 turns active while 1 and 2 are at 101 and 400: it starts at 250.
+// Leaf 3 turns active while 1 and 2 are at 121 and 480: it starts at 300, which leaf 1 reaches too.
 fn between(words: &mut Words, lengths: &mut Lengths) {
     text(b"# a class turns active between two others\n");
     starts(trees::bare(), 0, words, lengths);
     arrives(words, lengths, 0, 1, 101);
-    arrives(words, lengths, 0, 1, 148);
+    arrives(words, lengths, 0, 1, 159);
     arrives(words, lengths, 0, 1, 1);
     arrives(words, lengths, 0, 1, 1);
     arrives(words, lengths, 0, 2, 100);
@@ -81,17 +81,17 @@ fn deep_sent(words: &mut Words, lengths: &mut Lengths)
     arrives(words, lengths, 0, 10, 600);
     arrives(words, lengths, 0, 10, 600);
     departs(words, lengths, 0);
-    departs(words, lengths, 600);
-    departs(words, lengths, 1200);
-    departs(words, lengths, 1800);
-    departs(words, lengths, 2400);
-    departs(words, lengths, 3000);
+    departs(words, lengths, 620);
+    departs(words, lengths, 1240);
+    departs(words, lengths, 1860);
+    departs(words, lengths, 2480);
+    departs(words, lengths, 3100);
 }
 
 fn deep(words: &mut Words, lengths: &mut Lengths) {
     text(b"# a tree of depth 8\n");
     deep_sent(words, lengths);
-    departs(words, lengths, 3600);
+    departs(words, lengths, 3720);
     virtual_times(words, lengths, 1, 10);
     virtual_times(words, lengths, 8, 9);
 }
@@ -105,6 +105,6 @@ fn deep_again(words: &mut Words, lengths: &mut Lengths) {
     virtual_times(words, lengths, 1, 10);
     virtual_times(words, lengths, 8, 9);
     departs(words, lengths, 9000);
-    departs(words, lengths, 9600);
-    departs(words, lengths, 10200);
+    departs(words, lengths, 9620);
+    departs(words, lengths, 10240);
 }

@@ -65,7 +65,7 @@ fn eight(out: [u64; 8]) {
     text(b"\n");
 }
 
-// As `depart 0 says 1 1 0 500 1 1 50 1050`, in the order of the header.
+// As `depart 0 says 1 1 0 500 1 1 50 1090`, in the order of the header.
 fn departs(words: &mut Words, lengths: &mut Lengths, stamp: u32)
     requires { ⌜ Reached (now words) (now lengths) ⌝ }
     ensures { λ r. ⌜ Reached (now (words .exit)) (now (lengths .exit)) ⌝ }
@@ -77,7 +77,7 @@ fn departs(words: &mut Words, lengths: &mut Lengths, stamp: u32)
     eight(out);
 }
 
-// As `clock 60 class 1 waiting 2 virtual 0 head 1 50 1050`.
+// As `clock 60 class 1 waiting 2 virtual 0 head 1 50 1090`.
 fn asks(words: &Words, lengths: &Lengths, class: u32)
     requires { ⌜ Reached (now words) (now lengths) ⌝ }
 {

@@ -1,4 +1,5 @@
-// The rows of document 01's table that are marked P, in its order.
+// The rows of document 01's table that are marked P, in its order, with each departure at the first tick
+// at which the link is free.
 use crate::calls::arrives;
 use crate::calls::departs;
 use crate::calls::starts;
@@ -44,11 +45,11 @@ fn both_sent(words: &mut Words, lengths: &mut Lengths)
     arrives(words, lengths, 0, 1, 500);
     arrives(words, lengths, 0, 2, 1000);
     departs(words, lengths, 0);
-    departs(words, lengths, 500);
+    departs(words, lengths, 520);
 }
 
 fn both_wait(words: &mut Words, lengths: &mut Lengths) {
-    text(b"# both wait; departures at 0 and 500\n");
+    text(b"# both wait; departures at 0 and 520\n");
     both_sent(words, lengths);
     virtual_times(words, lengths, 1, 2);
 }
@@ -64,7 +65,7 @@ fn instead(words: &mut Words, lengths: &mut Lengths) {
     text(b"# instead leaf 1 gets 500 at 600\n");
     both_sent(words, lengths);
     arrives(words, lengths, 600, 1, 500);
-    departs(words, lengths, 1000);
+    departs(words, lengths, 1540);
 }
 
 fn delayed_again(words: &mut Words, lengths: &mut Lengths) {
@@ -73,22 +74,22 @@ fn delayed_again(words: &mut Words, lengths: &mut Lengths) {
     arrives(words, lengths, 0, 2, 1000);
     departs(words, lengths, 0);
     arrives(words, lengths, 1000, 2, 1000);
-    departs(words, lengths, 2000);
+    departs(words, lengths, 2040);
 }
 
 fn three(words: &mut Words, lengths: &mut Lengths) {
-    text(b"# leaf 1 alone, three of 500 at 0; departures 0, 500, 1,000\n");
+    text(b"# leaf 1 alone, three of 500 at 0; departures 0, 520, 1,040\n");
     starts(trees::tree_a(), 0, words, lengths);
     arrives(words, lengths, 0, 1, 500);
     arrives(words, lengths, 0, 1, 500);
     arrives(words, lengths, 0, 1, 500);
     departs(words, lengths, 0);
-    departs(words, lengths, 500);
-    departs(words, lengths, 1000);
+    departs(words, lengths, 520);
+    departs(words, lengths, 1040);
 }
 
 fn both_again(words: &mut Words, lengths: &mut Lengths) {
-    text(b"# both passive at 2,000 and 1,334; leaf 2 then leaf 1 turn active\n");
+    text(b"# both passive at 2,080 and 1,360; leaf 2 then leaf 1 turn active\n");
     both_sent(words, lengths);
     arrives(words, lengths, 5000, 2, 1000);
     arrives(words, lengths, 5000, 1, 500);

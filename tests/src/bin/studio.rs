@@ -4,6 +4,7 @@
 use outside::calls::{print_call, replay, Call, Departure, State};
 use outside::curves::Curve;
 use outside::file::{file_of, Order};
+use outside::history::held;
 use outside::tree::{Class, Tree};
 use std::path::Path;
 
@@ -23,7 +24,7 @@ fn studio_tree() -> Tree {
     Tree::under_root(&[
         class(0, 49_152, Curve::None),                                            // 1 the studio
         class(0, 16_384, Curve::None),                                            // 2 the office
-        class(1, 16_384, Curve::FrontLoaded { m1: 13_108, d: 1_000, m2: 3_277 }), // 3 speech
+        class(1, 16_384, Curve::FrontLoaded { m1: 14_418, d: 1_000, m2: 3_605 }), // 3 speech: 200 bytes, 220 on the link, in 1,000 ticks and every 4,000
         class(1, 8_192, Curve::Delayed { d: 2_000, m: 6_554 }),                   // 4 remote control
         class(1, 24_576, Curve::Straight { m: 16_384 }),                          // 5 picture
         class(2, 12_288, Curve::None),                                            // 6 nightly copies
@@ -81,7 +82,7 @@ fn calls() -> String {
             None => {
                 text += &(print_call(Call::Depart { stamp: stamp(departs_at) }) + "\n");
                 match state.depart(stamp(departs_at)).expect("a departure of the afternoon is accepted") {
-                    Departure::Packet(packet) => link_free = departs_at + packet.length,
+                    Departure::Packet(packet) => link_free = departs_at + held(packet.length),
                     Departure::NoneWaits => return text,
                 }
             }

@@ -120,15 +120,15 @@ fn told<Line: Borrow<str>>(name: &str, tree: &Tree, calls: &[Line]) -> Case {
     Case::new(name, file_of(tree, Order::Big), format!("{}\n", calls.join("\n")))
 }
 
-/// The situations of the document's example table.
+/// The situations of the document's example table, with each departure at the first tick at which the link is free.
 fn rows() -> Vec<Case> {
     let a = tree_a();
-    let both = ["start 0", "arrive 0 1 500", "arrive 0 2 1000", "depart 0", "depart 500"];
+    let both = ["start 0", "arrive 0 1 500", "arrive 0 2 1000", "depart 0", "depart 520"];
     vec![
         told("row-5000", &a, &[&both[..], &["arrive 5000 1 500", "depart 5000"]].concat()),
         told("row-600", &a, &[&both[..], &["arrive 600 1 500", "depart 600"]].concat()),
         told("row-again", &a, &["start 0", "arrive 0 2 1000", "depart 0", "arrive 1000 2 1000", "depart 1000"]),
-        told("row-three", &a, &["start 0", "arrive 0 1 500", "arrive 0 1 500", "arrive 0 1 500", "depart 0", "depart 500", "depart 1000"]),
+        told("row-three", &a, &["start 0", "arrive 0 1 500", "arrive 0 1 500", "arrive 0 1 500", "depart 0", "depart 520", "depart 1040"]),
         told("row-active", &a, &[&both[..], &["arrive 600 2 1000", "arrive 600 1 500", "depart 600", "depart 600", "depart 600"]].concat()),
         told("row-round", &a, &["start 4294967290", "depart 10", "arrive 10 1 500", "depart 2147483658", "depart 2147483657"]),
     ]
@@ -141,19 +141,19 @@ fn marks() -> Vec<Case> {
     let kept = Tree::under_root(&[plain, plain, leaf(0, 65_536, Curve::Straight { m: 65_536 }), plain]);
     let thirds = Tree::under_root(&[leaf(0, 49_152, Curve::None), plain]);
     vec![
-        // Virtual times 100 and 101: half, rounded down, is 100, and leaf 1 has the lowest number there.
+        // Virtual times 100 and 101, of packets of 80 and 81: half, rounded down, is 100, and leaf 1 has the lowest number there.
         told("mark-half", &even, &[
-            "start 0", "arrive 0 2 100", "arrive 0 3 101", "arrive 0 2 50", "arrive 0 3 50", "depart 0", "depart 0", "arrive 0 1 10", "depart 0", "depart 0",
+            "start 0", "arrive 0 2 80", "arrive 0 3 81", "arrive 0 2 50", "arrive 0 3 50", "depart 0", "depart 0", "arrive 0 1 10", "depart 0", "depart 0",
         ]),
         // The mark is 500 when leaf 4 starts; it does not fall back when leaf 1 starts, though the others ask for less.
         told("mark-kept", &kept, &[
-            "start 0", "arrive 0 2 100", "arrive 0 2 100", "arrive 0 2 100", "arrive 0 2 100", "arrive 0 2 100", "arrive 0 2 100", "arrive 0 3 1000",
+            "start 0", "arrive 0 2 80", "arrive 0 2 80", "arrive 0 2 80", "arrive 0 2 80", "arrive 0 2 80", "arrive 0 2 80", "arrive 0 3 980",
             "depart 0", "arrive 0 3 1", "arrive 0 4 10", "depart 0", "depart 1000", "arrive 1000 1 10", "depart 1000", "depart 1000", "depart 1000", "depart 1000",
             "depart 1000", "depart 1000", "depart 1000", "depart 1000",
         ]),
-        // Leaf 1 alone turns active at its own last virtual time, 2, which was rounded up.
+        // Leaf 1 alone turns active at its own last virtual time, 30, which was rounded up from 4·22/3.
         told("mark-own", &thirds, &[
-            "start 0", "arrive 0 1 1", "depart 0", "arrive 0 1 1", "arrive 0 1 1", "arrive 0 2 1", "arrive 0 2 1", "depart 0", "depart 0", "depart 0", "depart 0",
+            "start 0", "arrive 0 1 2", "depart 0", "arrive 0 1 2", "arrive 0 1 2", "arrive 0 2 2", "arrive 0 2 2", "depart 0", "depart 0", "depart 0", "depart 0",
         ]),
     ]
 }
@@ -169,7 +169,7 @@ fn rate_past_32_bits() -> Case {
     let tree = Tree::under_root(&[leaf(0, 1, Curve::Straight { m: 1 })]);
     let mut calls = vec!["start 0".to_string()];
     for turn in 0..8u64 {
-        let now = turn * 9_000 * 65_536;
+        let now = turn * 9_020 * 65_536;
         calls.extend([format!("arrive {now} 1 9000"), format!("depart {now}")]);
     }
     calls.extend(["arrive 100 1 500".to_string(), "depart 100".to_string()]);
@@ -182,10 +182,10 @@ fn share_past_32_bits() -> Case {
     let mut calls = vec!["start 0".to_string()];
     calls.extend((0..10).map(|_| "arrive 0 2 9000".to_string()));
     calls.extend((0..15).map(|_| "arrive 0 1 9000".to_string()));
-    calls.extend((0..15).map(|turn| format!("depart {}", 9_000 * turn)));
-    calls.extend((0..8).map(|_| "depart 126000".to_string()));
-    calls.push("arrive 126000 1 100".to_string());
-    calls.extend((0..4).map(|_| "depart 126001".to_string()));
+    calls.extend((0..15).map(|turn| format!("depart {}", 9_020 * turn)));
+    calls.extend((0..8).map(|_| "depart 126280".to_string()));
+    calls.push("arrive 126280 1 100".to_string());
+    calls.extend((0..4).map(|_| "depart 126281".to_string()));
     told("share-past-32-bits", &tree, &calls)
 }
 
@@ -209,6 +209,29 @@ pub fn more_by_hand() -> Vec<Case> {
         rate_past_32_bits(),
         share_past_32_bits(),
         long_answers(),
+    ]
+}
+
+/// Runs on which it shows where framing counts and where it does not (request 2). They stand last in the corpus.
+pub fn framed() -> Vec<Case> {
+    let a = tree_a();
+    let plain = leaf(0, 65_536, Curve::None);
+    let even = Tree::under_root(&[plain, plain]);
+    let whole = Tree::under_root(&[plain, leaf(0, 65_536, Curve::Straight { m: 65_536 })]);
+    let small_and_large: Vec<String> = ["start 0"].into_iter().chain(["arrive 0 1 1"; 60]).chain(["arrive 0 2 1000"; 3]).chain(["depart 0"; 63]).map(String::from).collect();
+    vec![
+        // At 01's own ticks the third packet is not eligible yet.
+        told("framed-row-three", &a, &["start 0", "arrive 0 1 500", "arrive 0 1 500", "arrive 0 1 500", "depart 0", "depart 500", "depart 1000"]),
+        // By the fair rule, packets of a byte count for 21 each and those of 1,000 for 1,020.
+        told("framed-fair", &even, &small_and_large),
+        // The longest packet is of 9,000 bytes still, and leaves with its length.
+        told("framed-lengths", &a, &["start 0", "arrive 0 1 9000", "arrive 0 1 9001", "arrive 0 2 8981", "arrive 0 2 9020", "depart 0", "depart 9001", "depart 18021"]),
+        // By the real-time rule: each packet of a byte is due 21 ticks after the one before.
+        told("framed-real-time", &whole, &[
+            "start 0", "arrive 0 2 1", "arrive 0 2 1", "arrive 0 2 1", "arrive 0 1 1", "depart 0", "depart 20", "depart 21", "depart 42", "depart 63",
+        ]),
+        // A packet leaves in full 9,020 ticks after its deadline.
+        told("framed-latest", &whole, &["start 0", "arrive 0 1 9000", "depart 0", "arrive 0 2 1500", "depart 9020", "depart 10540"]),
     ]
 }
 
@@ -276,6 +299,7 @@ pub fn corpus(seed: u64) -> Vec<Case> {
     cases.extend(more_by_hand());
     cases.extend(more_texts());
     cases.extend(longs());
+    cases.extend(framed());
     cases
 }
 

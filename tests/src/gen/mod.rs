@@ -11,7 +11,7 @@ mod trees;
 mod treetexts;
 
 pub use bursts::{script, scripts_by_hand, stored_scripts, Script};
-pub use cases::{by_hand, case, corpus, edges, longs, more_by_hand, more_texts, sort_of_answer, texts, Case};
+pub use cases::{by_hand, case, corpus, edges, framed, longs, more_by_hand, more_texts, sort_of_answer, texts, Case};
 pub use damage::damaged_file;
 pub use dice::Dice;
 pub use long::{long_file, long_files};

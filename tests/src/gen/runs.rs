@@ -4,6 +4,7 @@
 use super::dice::Dice;
 use super::trees::{any_tree, lively_tree};
 use crate::calls::{print_call, Call, Departure, State, CLOCK_TOP, HALF_ROUND};
+use crate::history::held;
 use crate::tree::Tree;
 
 /// A run as it grows: the lines of the calls file, the model's state and the tick at which the link is free.
@@ -42,7 +43,7 @@ impl Run {
         self.lines.push(print_call(Call::Depart { stamp }));
         let answer = self.state.depart(stamp).ok();
         if let Some(Departure::Packet(packet)) = answer {
-            self.link_free = self.now() + packet.length;
+            self.link_free = self.now() + held(packet.length);
         }
         answer
     }

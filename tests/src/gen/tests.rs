@@ -85,7 +85,7 @@ fn edges_are_where_they_should_be() {
 #[test]
 fn marks_by_hand() {
     let classes = |name: &str| {
-        let cases: Vec<Case> = by_hand().into_iter().chain(more_by_hand()).collect();
+        let cases: Vec<Case> = by_hand().into_iter().chain(more_by_hand()).chain(framed()).collect();
         let case = cases.iter().find(|case| case.name == name).unwrap();
         let printed = case.answer().printed;
         let class = |line: &str| line.strip_prefix("packet class ").and_then(|rest| rest[..1].parse::<u32>().ok());
@@ -96,6 +96,32 @@ fn marks_by_hand() {
     assert_eq!(classes("mark-kept"), [3, 2, 3, 2, 2, 2, 2, 1, 2, 4]);
     assert_eq!(classes("ancestor-active").last(), Some(&2));
     assert_eq!(classes("share-past-32-bits")[23..], [2, 2, 1]);
+    // Leaf 1 goes on from 21 while it is not past 1,020, 48 times; then from 1,029 on it has 11 left, until 1,260.
+    let large: Vec<usize> = classes("framed-fair").iter().enumerate().filter(|(_, &class)| class == 2).map(|(at, _)| at).collect();
+    assert_eq!(large, [1, 50, 62]);
+}
+
+/// Worked out by hand from request 2: leaf 2 of the whole link's rate is due every 21 ticks, and at 20 it is not eligible yet.
+#[test]
+fn framed_by_hand() {
+    let printed = |name: &str| {
+        let found: Vec<Case> = framed().into_iter().filter(|case| case.name == name).collect();
+        assert_eq!(found.len(), 1, "{name}");
+        found[0].answer().printed
+    };
+    let ends = |name: &str, lines: &[&str]| assert!(printed(name).ends_with(&(lines.join("\n") + "\n")), "{name}: {}", printed(name));
+    ends("framed-row-three", &["packet class 1 number 2 length 500 rule fair eligible 1040 deadline 2160"]);
+    ends("framed-lengths", &[
+        "started 3", "accepted number 0", "refused 12", "accepted number 0", "refused 12",
+        // 9,020 bytes at half a byte a tick, the first 1,000 of them up to the bend, and then a quarter: 4·9,020 − 2,000. 9,001 bytes: 2,000 + 2·9,001
+        "packet class 2 number 0 length 8981 rule real-time eligible 0 deadline 20002",
+        "packet class 1 number 0 length 9000 rule real-time eligible 0 deadline 34080", "none waits",
+    ]);
+    ends("framed-real-time", &[
+        "packet class 2 number 0 length 1 rule real-time eligible 0 deadline 21", "packet class 1 number 0 length 1 rule fair",
+        "packet class 2 number 1 length 1 rule real-time eligible 21 deadline 42", "packet class 2 number 2 length 1 rule real-time eligible 42 deadline 63", "none waits",
+    ]);
+    ends("framed-latest", &["packet class 2 number 0 length 1500 rule real-time eligible 0 deadline 1520", "none waits"]);
 }
 
 /// Every answer to a text turns up, and files are written in all spellings.

@@ -1,5 +1,5 @@
 -- The guarantee. The invariant holds after every call, for every D; taken at the deadline of a head that waits, and with the curves' fit, it leaves time
--- to send that head in full within 9,000 ticks after its deadline. A head stays the head, with its deadline, until it leaves.
+-- to send that head in full within `heaviest` ticks after its deadline. A head stays the head, with its deadline, until it leaves.
 -- Assumes nothing.
 use Prim.Native.Nat.{ℕ, _+_, _≤_, _<_}
 use mathlib.Core.Path.{_≡_, refl, _∙_}
@@ -26,7 +26,7 @@ use Rattle.rules.proofs.Tests.{never}
 use Rattle.rules.proofs.Allowed.{allowed-timely}
 use Rattle.rules.proofs.Trees.{leaf-class, curve-rising, none-count}
 use Rattle.rules.proofs.Queues.{waits-leaf, waits-came-on}
-use Rattle.rules.specs.Link.{heaviest, free, Keeps, BusyUntil, EveryCallKeeps, Link}
+use Rattle.rules.specs.Link.{heaviest, HeaviestIs, free, Keeps, BusyUntil, EveryCallKeeps, Link}
 use Rattle.rules.specs.Guarantee.{Moment, now, after, Head, LeftBy, TimeLeft, Sound, RightSound, Guaranteed, FromFit, Guarantee, HeadsThere}
 use Rattle.rules.proofs.Link.Leaves.{head-some}
 use Rattle.rules.proofs.Link.Invariant.{Invariant, ceiling, at-start, at-idle, at-came, at-fair, at-late, at-early, head-fits}
@@ -239,7 +239,12 @@ heads-there h lawful past m j curved waiting =
     let d = deadline-exists (curveOf (h .tree) j) rising (pieces past j) (sentRealTime past j + weigh (headLength past j)) in
     (d .0, record { curved = curved; waiting = waiting; isNumber = refl; isLength = refl; isDeadline = d .1 })
 
--- in a run that the link keeps, "a packet that leaves at" a tick "keeps the link busy until" that tick and its bytes
+-- "Demand 3 then reads 9,020 ticks"
+pub heaviest-is : HeaviestIs
+unfolding weigh
+heaviest-is = refl
+
+-- in a run that the link keeps, "a packet that leaves at" a tick "keeps the link busy until" that tick and what it counts for
 pub busy-until : BusyUntil
 unfolding free
 busy-until r at j rule cs keeps = let asked = keeps .asked in omega arith

@@ -38,7 +38,7 @@ use Rattle.rules.proofs.Link.Guarantee.{guarantee}
 
 lawful-A : LawfulCalls treeA runA
 unfolding lawful every classAt isChild childBelow hasChild isLeaf clock queue acceptedIn weigh sentRealTimeIn pieces standing amount anyOf largestOf smallestOf isMet sentIn active roundedUp virtualTime isOther markByChildren fairPieces outcome
-lawful-A = lawful-told treeA grown-A (8500 ∷ 6000 ∷ 6000 ∷ 4000 ∷ 2000 ∷ 4000 ∷ 1000 ∷ []) runA refl
+lawful-A = lawful-told treeA grown-A (8680 ∷ 6320 ∷ 4240 ∷ 6080 ∷ 2160 ∷ 4040 ∷ 1040 ∷ []) runA refl
 
 link-A : Link 0 runA
 unfolding keeps clock queue anyOf free weigh
@@ -74,17 +74,17 @@ premises-A n j number length deadline head reached =
       clockReaches = reached;
     }
 
-first-A : Premises historyA 1 0 500 1000
+first-A : Premises historyA 1 0 500 1040
 unfolding every classAt queue clock weigh sentRealTimeIn pieces headNumber standing amount
-first-A = premises-A 10 1 0 500 1000 (head-told treeA (drop 10 runA) 1 1000 refl refl refl) (omega arith)
+first-A = premises-A 10 1 0 500 1040 (head-told treeA (drop 10 runA) 1 1040 refl refl refl) (omega arith)
 
-second-A : Premises historyA 2 0 1000 4000
+second-A : Premises historyA 2 0 1000 4040
 unfolding every classAt queue clock weigh sentRealTimeIn pieces headNumber standing amount
-second-A = premises-A 9 2 0 1000 4000 (head-told treeA (drop 9 runA) 2 4000 refl refl refl) (omega arith)
+second-A = premises-A 9 2 0 1000 4040 (head-told treeA (drop 9 runA) 2 4040 refl refl refl) (omega arith)
 
-last-A : Premises historyA 2 3 700 8500
+last-A : Premises historyA 2 3 700 8680
 unfolding every classAt queue clock weigh sentRealTimeIn pieces headNumber standing amount
-last-A = premises-A 2 2 3 700 8500 (head-told treeA (drop 2 runA) 2 8500 refl refl refl) (omega arith)
+last-A = premises-A 2 2 3 700 8680 (head-told treeA (drop 2 runA) 2 8680 refl refl refl) (omega arith)
 
 late-grown : Grown lateTree
 unfolding sumOf amount
@@ -92,17 +92,17 @@ late-grown = right (two-right _ _ _ _ (omega arith) none-right (omega arith) (st
 
 late-lawful : LawfulCalls lateTree lateRun
 unfolding lawful every classAt isChild childBelow hasChild isLeaf clock queue acceptedIn weigh sentRealTimeIn pieces standing amount anyOf largestOf smallestOf isMet sentIn active roundedUp virtualTime isOther markByChildren fairPieces outcome
-late-lawful = lawful-told lateTree late-grown (1500 ∷ []) lateRun refl
+late-lawful = lawful-told lateTree late-grown (weigh 1500 ∷ []) lateRun refl
 
 late-link : Link 0 lateRun
 unfolding keeps clock queue anyOf free weigh
 late-link = record { soon = omega arith; kept = keeps-told lateTree 0 lateRun late-lawful refl }
 
-late-head : Head lateTree (drop 2 lateRun) 2 0 1500 1500
+late-head : Head lateTree (drop 2 lateRun) 2 0 1500 (weigh 1500)
 unfolding every classAt queue clock weigh sentRealTimeIn pieces headNumber standing amount
-late-head = head-told lateTree (drop 2 lateRun) 2 1500 refl refl refl
+late-head = head-told lateTree (drop 2 lateRun) 2 (weigh 1500) refl refl refl
 
-late-premises : Premises lateHistory 2 0 1500 1500
+late-premises : Premises lateHistory 2 0 1500 (weigh 1500)
 unfolding clock weigh
 late-premises =
     record {
@@ -132,16 +132,16 @@ unfolding EveryDeparture
 departure Q now h = h .0
 departure Q (after {c = c} {cs = cs} m) h = departure Q m (departures-before Q c cs h)
 
-no-sooner : (tick : ℕ) → LeftBy lateRun 2 0 1500 tick → 1500 + heaviest ≤ tick
+no-sooner : (tick : ℕ) → LeftBy lateRun 2 0 1500 tick → weigh 1500 + heaviest ≤ tick
 unfolding EveryDeparture weigh
 no-sooner tick l =
-    omega (arith, l .full, departure (λ at j. j ≡ 2 → 9000 ≤ at) (l .call) ((λ e. omega arith), ((λ e. absurd (omega arith)), tt)) refl)
+    omega (arith, l .full, departure (λ at j. j ≡ 2 → heaviest ≤ at) (l .call) ((λ e. omega arith), ((λ e. absurd (omega arith)), tt)) refl)
 
-late-exact : Attained lateHistory 2 0 1500 1500
+late-exact : Attained lateHistory 2 0 1500 (weigh 1500)
 late-exact =
     record {
       premises = late-premises;
-      leaves = guarantee 0 lateHistory (late-premises .lawful) late-link .noneLater (drop 2 lateRun) (ago 2 lateRun) 2 0 1500 1500 late-head (late-premises .clockReaches);
+      leaves = guarantee 0 lateHistory (late-premises .lawful) late-link .noneLater (drop 2 lateRun) (ago 2 lateRun) 2 0 1500 (weigh 1500) late-head (late-premises .clockReaches);
       noSooner = no-sooner;
     }
 
@@ -151,9 +151,9 @@ runs-show = record { made = lawful-made historyA (first-A .lawful); madeLate = l
 pub sharp : Sharp
 unfolding clock
 sharp late holds =
-    ⊎-elim (λ l. l) (λ l. absurd (omega (arith, no-sooner (1500 + late) (by l)))) (le-or-lt heaviest late)
+    ⊎-elim (λ l. l) (λ l. absurd (omega (arith, no-sooner (weigh 1500 + late) (by l)))) (le-or-lt heaviest late)
   where
-    by : late < heaviest → LeftBy lateRun 2 0 1500 (1500 + late)
+    by : late < heaviest → LeftBy lateRun 2 0 1500 (weigh 1500 + late)
     by l =
-        holds lateHistory (late-premises .lawful) late-link (drop 2 lateRun) (ago 2 lateRun) 2 0 1500 1500 late-head
+        holds lateHistory (late-premises .lawful) late-link (drop 2 lateRun) (ago 2 lateRun) 2 0 1500 (weigh 1500) late-head
         (omega (arith, late-premises .clockReaches))

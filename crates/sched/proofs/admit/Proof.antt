@@ -14,10 +14,9 @@ use Rattle.rules.specs.Calls.{History}
 use Rattle.rules.specs.Queues.{accepted}
 use Rattle.rules.specs.Lawful.{Lawful}
 use Rattle.rules.specs.Answers.{outcome, refused, passed}
-use Rattle.rules.proofs.Sent.{accepted-most}
+use Rattle.rules.proofs.Sent.{weigh-small, accepted-most}
 use Rattle.state.specs.State.{Shows}
 use Rattle.rules.specs.Checks.{leafChecks}
-use Rattle.state.proofs.LeafCells.{weigh-small}
 use Rattle.sched.proofs.Arriving.{no-such-leaf, too-short, too-long, leaf-full, bytes-decide, class-narrow, leaf-shown, interior-shown, absent-shown, waiting-shown}
 use Rattle.sched.proofs.admit.Statement.{statement}
 use Rattle.sched.proofs.admit.Tie as tie
@@ -91,32 +90,32 @@ returns-5 c = λ l h law s.
     leaf-full h (args .class) (args .length) (leaf (four .before .before) h l law s) (four .before .if3 .left) (four .if4 .left)
     (omega (arith, waiting-shown law s (args .class) (below (d .before) h l law s), g .get3 .ensures, g .before .get2 .ensures, c .if5 .taken))
 
-header-requires-2 : tie.Need-header-requires-2
-header-requires-2 c κs = search needs
-
 weigh-requires : tie.Need-weigh-requires
 weigh-requires c κs = search needs
 
+header-requires-2 : tie.Need-header-requires-2
+header-requires-2 c κs = search needs
+
 add-if6 : tie.Need-add-if6
 add-if6 c =
-    let read = c .before in
-    let four = read .before .before .before .before in
+    let weighed = c .before in
+    let four = weighed .before .before .before .before in
     let start = four .before .before .before .before .before .before in
     let r = start .pre .holds in
     omega (
       arith,
-      read .header2 .ensures,
-      c .weigh .ensures,
+      c .header2 .ensures,
+      weighed .weigh .ensures,
       weigh-small (start .args .length) (four .if4 .left),
       r .shows .header .accepted,
       accepted-most (r .history .tree) (r .history .calls) (r .lawful .lawful),
     )
 
 -- 11, 12 and 13 are passed, and the bytes decide
-abbrev start : tie.After-weigh → tie.Start
+abbrev start : tie.After-header2 → tie.Start
 start c = c .before .before .before .before .before .before .before .before .before .before .before
 
-module _ (c : tie.After-weigh) (h : History) (l : List ℕ) (law : Lawful h) (s : Shows (start c .args .words .now) l h) where
+module _ (c : tie.After-header2) (h : History) (l : List ℕ) (law : Lawful h) (s : Shows (start c .args .words .now) l h) where
   abbrev bytes : ℕ
   bytes = accepted (h .calls) + weigh (start c .args .length)
 
@@ -131,8 +130,8 @@ module _ (c : tie.After-weigh) (h : History) (l : List ℕ) (law : Lawful h) (s 
       full
       e
 
-  bytes-are : c .before .header2 .result + c .weigh .result ≡ bytes
-  bytes-are = omega (arith, c .before .header2 .ensures, c .weigh .ensures, s .header .accepted)
+  bytes-are : c .header2 .result + c .before .weigh .result ≡ bytes
+  bytes-are = omega (arith, c .header2 .ensures, c .before .weigh .ensures, s .header .accepted)
 
 returns-6 : tie.Need-returns-6
 returns-6 c = λ l h law s.
@@ -156,8 +155,8 @@ admit-spec =
     get-requires-3
     sub-if5
     returns-5
-    header-requires-2
     weigh-requires
+    header-requires-2
     add-if6
     returns-6
     returns-7)

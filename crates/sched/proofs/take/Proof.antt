@@ -96,7 +96,7 @@ count-bytes-requires c κs =
       omega (
         arith,
         cell,
-        c .weigh .ensures ∙ ap weigh (value taken (p .history) (p .holds .it) (p .lawful) (p .shows) (p .holds .holds)),
+        c .before .weigh .ensures ∙ ap weigh (value taken (p .history) (p .holds .it) (p .lawful) (p .shows) (p .holds .holds)),
         take-bytes (p .history) (p .lawful) (p .shows) (p .holds .it) (first .args .class) (first .args .rule) (p .holds .holds),
       ),
     )
@@ -126,7 +126,7 @@ module _ (c : tie.After-count-bytes) (h : History) (t : ℕ) (law : Lawful h) (s
   moved =
       let stored = c .before .before .before in
       let args = entry c .args in
-      let bytes : c .before .weigh .result ≡ weigh (headLength (h .calls) (args .class)) = c .before .weigh .ensures ∙ ap weigh (value (taken c) h t law shows allowed) in
+      let bytes : c .before .before .weigh .result ≡ weigh (headLength (h .calls) (args .class)) = c .before .before .weigh .ensures ∙ ap weigh (value (taken c) h t law shows allowed) in
       let first : stored .put .last .0 ≡ with (args .words .now) (args .class) HEAD-NUMBER (at (args .words .now) (args .class) HEAD-NUMBER + 1) =
       stored .put .ensures ∙ ap (λ (x : ℕ). with (args .words .now) (args .class) HEAD-NUMBER (x + 1)) (taken c .before .before .get .ensures)
       in
@@ -135,24 +135,21 @@ module _ (c : tie.After-count-bytes) (h : History) (t : ℕ) (law : Lawful h) (s
   raising : BeforeRaise (c .count-bytes .last .0) (h .tree) (h .calls) (entry c .args .class) (weigh (headLength (h .calls) (entry c .args .class)))
   raising = before-raise h law shows t (entry c .args .class) (entry c .args .rule) allowed moved
 
-weigh-requires-2 : tie.Need-weigh-requires-2
-weigh-requires-2 c κs = search needs
-
 raise-requires : tie.Need-raise-requires
 raise-requires c κs =
-    let done = c .before .before in
+    let done = c .before in
     let p = entry done .pre in
     record {
       tree = p .history .tree;
       calls = p .history .calls;
       holds =
           subst (λ (x : ℕ). BeforeRaise (done .count-bytes .last .0) (p .history .tree) (p .history .calls) (entry done .args .class) x)
-          (sym (c .weigh2 .ensures ∙ ap weigh (value (taken done) (p .history) (p .holds .it) (p .lawful) (p .shows) (p .holds .holds))))
+          (sym (done .before .before .weigh .ensures ∙ ap weigh (value (taken done) (p .history) (p .holds .it) (p .lawful) (p .shows) (p .holds .holds))))
           (raising done (p .history) (p .holds .it) (p .lawful) (p .shows) (p .holds .holds));
     }
 
 abbrev counts : tie.After-raise → tie.After-count-bytes
-counts c = c .before .before .before
+counts c = c .before .before
 
 -- and after the counts above the leaf are brought up
 module _ (c : tie.After-raise) (h : History) (t : ℕ) (law : Lawful h) (shows : Shows (entry (counts c) .args .words .now) (entry (counts c) .args .lengths .now) h)
@@ -161,7 +158,7 @@ module _ (c : tie.After-raise) (h : History) (t : ℕ) (law : Lawful h) (shows :
   raised =
       c .raise .ensures (h .tree) (h .calls)
       (subst (λ (x : ℕ). BeforeRaise (counts c .count-bytes .last .0) (h .tree) (h .calls) (entry (counts c) .args .class) x)
-      (sym (c .before .weigh2 .ensures ∙ ap weigh (value (taken (counts c)) h t law shows allowed))) (raising (counts c) h t law shows allowed))
+      (sym (counts c .before .before .weigh .ensures ∙ ap weigh (value (taken (counts c)) h t law shows allowed))) (raising (counts c) h t law shows allowed))
 
   settling : BeforeSettle (c .raise .last .0) (freed (counts c) .put-length .last .0) (h .tree) (h .calls)
       (entry (counts c) .args .class) t (entry (counts c) .args .rule)
@@ -214,7 +211,6 @@ take-spec =
     put-requires
     weigh-requires
     count-bytes-requires
-    weigh-requires-2
     raise-requires
     settle-requires
     cast-leaf

@@ -6,7 +6,7 @@ use native.Mathlib.Omega.{arith}
 use borrow.Author.Needs.{needs}
 use Rattle.curve.specs.Keeping.{mostStart}
 use Rattle.curve.specs.declared.Kept.{Kept}
-use Rattle.state.proofs.LeafCells.{weigh-small}
+use Rattle.rules.proofs.Sent.{weigh-small}
 use Rattle.state.proofs.leaf.due.Statement.{statement}
 use Rattle.state.proofs.leaf.due.Tie as tie
 
