@@ -26,7 +26,7 @@ use Rattle.rules.proofs.Trees.{leaf-class, within-self, within-top, wit
 use Rattle.rules.proofs.Queues.{queue-came, queue-came-other, queue-left, queue-left-other, queue-idle, waits-leaf}
 use Rattle.rules.proofs.Active.{choice-waits, choice-leaf}
 
--- what a packet counts for: nothing else looks into `weigh`, but the table of rows and the runs, which have to compute
+-- what a packet counts for: besides these laws only `weigh`'s own proof looks into it, and what has to compute, the rows, the runs and `heaviest-is`
 
 pub weigh-some : (n : ℕ) → 1 ≤ n → 1 ≤ weigh n
 unfolding weigh
