@@ -3,6 +3,7 @@ pub mod Answers
 pub mod Order
 pub mod Limits
 pub mod Amount
+pub mod Division
 pub mod Sum
 pub mod Fit
 pub mod Pieces

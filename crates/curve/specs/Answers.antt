@@ -8,11 +8,6 @@ pub record Least (P : ℕ → Type 0) (t : ℕ) : Type 0 where
   pub holds : P t
   pub least : (u : ℕ) → P u → t ≤ u
 
--- "not before" a tick: P holds at t, which is not before it
-pub record NotBefore (from : ℕ) (P : ℕ → Type 0) (t : ℕ) : Type 0 where
-  pub after : from ≤ t
-  pub holds : P t
-
 -- a test's answer: true exactly where P holds
 abbrev pub Exactly : Bool → Type 0 → Type 0
 Exactly true P = P

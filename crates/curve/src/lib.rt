@@ -4,9 +4,9 @@
 
 pub mod amounts;
 pub mod codec;
+mod division;
 pub mod fit;
 pub mod pieces;
-mod search;
 
 // The parts that are one byte per tick: the link's rate, and the most that a rate or a share may be.
 pub const WHOLE: u32 = 65536;

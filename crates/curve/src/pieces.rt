@@ -8,11 +8,12 @@ use crate::amounts::has_risen;
 use crate::amounts::last_slope;
 use crate::amounts::less;
 use crate::amounts::undelayed;
-use crate::search::earliest;
-ghost use Prim.Native.Nat.{_≤_, _<_};
-ghost use Rattle.curve.specs.Answers.{Least, NotBefore};
+use crate::division::earliest;
+ghost use mathlib.Core.Path.{_≡_};
+ghost use Prim.Native.Nat.{_≤_, max};
+ghost use Rattle.curve.specs.Answers.{Exactly};
 ghost use Rattle.curve.specs.Curves.{Rising, RightRate};
-ghost use Rattle.curve.specs.Keeping.{mostBytes, mostStart, Stands, BothStand};
+ghost use Rattle.curve.specs.Keeping.{mostBytes, mostStart};
 ghost use Rattle.curve.specs.Promises.{LowerPiece, ArrivesAt, KeptAfter, DueAt, EligibleAt};
 
 // Of an old piece and a new one, the one that is lower on a line of that rate from there on.
@@ -28,50 +29,20 @@ pub fn lower(rate: u32, old: Piece, new: Piece) -> Piece
     }
 }
 
-// The earliest tick, not before `from` nor its start, at which the piece stands at that many bytes.
-fn arrival_from(curve: Curve, piece: Piece, bytes: u64, from: u64) -> u64
-    requires { ⌜ Rising curve × (bytes ≤ mostBytes) × (piece .start ≤ mostStart) ⌝ }
-    ensures { λ r. ⌜ Least (NotBefore from (Stands curve piece bytes)) r ⌝ }
-{
-    let rise = BYTE * less(bytes, piece.sent);
-    piece.start + earliest(curve, rise, less(from, piece.start))
-}
-
-// The earliest tick, not before its start, at which the piece stands at that many bytes. It is sought
-// from `near` on, so a tick close before it is found soonest; any gives the same answer.
-pub fn arrival(curve: Curve, piece: Piece, bytes: u64, near: u64) -> u64
+// The earliest tick, not before its start, at which the piece stands at that many bytes.
+pub fn arrival(curve: Curve, piece: Piece, bytes: u64) -> u64
     requires { ⌜ Rising curve × (bytes ≤ mostBytes) × (piece .start ≤ mostStart) ⌝ }
     ensures { λ r. ⌜ ArrivesAt curve piece bytes r ⌝ }
 {
-    let from = less(near, 1);
-    let tick = arrival_from(curve, piece, bytes, from);
-    if from < tick {
-        return tick;
-    }
-    arrival_from(curve, piece, bytes, 0)
+    let rise = BYTE * less(bytes, piece.sent);
+    piece.start + earliest(curve, rise)
 }
 
-// The earliest tick, not before `from`, at which both pieces stand so.
-fn both_from(curve: Curve, kept: Kept, bytes: u64, from: u64) -> u64
-    requires { ⌜ Rising curve × (bytes ≤ mostBytes) × (kept .steep .start ≤ mostStart) × (kept .flat .start ≤ mostStart) ⌝ }
-    ensures { λ r. ⌜ Least (NotBefore from (BothStand curve kept bytes)) r ⌝ }
+// The later of two ticks.
+fn later(a: u64, b: u64) -> u64
+    ensures { λ r. ⌜ r ≡ max a b ⌝ }
 {
-    let steep = kept.steep;
-    let flat = kept.flat;
-    arrival_from(curve, flat, bytes, arrival_from(curve, steep, bytes, from))
-}
-
-// The earliest tick at which both pieces stand so, sought from `near` on as `arrival` does.
-fn both(curve: Curve, kept: Kept, bytes: u64, near: u64) -> u64
-    requires { ⌜ Rising curve × (bytes ≤ mostBytes) × (kept .steep .start ≤ mostStart) × (kept .flat .start ≤ mostStart) ⌝ }
-    ensures { λ r. ⌜ DueAt curve kept bytes r ⌝ }
-{
-    let from = less(near, 1);
-    let due = both_from(curve, kept, bytes, from);
-    if from < due {
-        return due;
-    }
-    both_from(curve, kept, bytes, 0)
+    if a < b { b } else { a }
 }
 
 impl Kept {
@@ -88,19 +59,39 @@ impl Kept {
         }
     }
 
-    // The earliest tick at which that many bytes are due.
-    pub fn deadline(self, curve: Curve, bytes: u64, near: u64) -> u64
+    // Whether both pieces are the same one, as they always are where the curve has one slope.
+    fn is_one(self) -> bool
+        ensures { λ r. ⌜ Exactly r (self .steep ≡ self .flat) ⌝ }
+    {
+        if self.steep.start != self.flat.start {
+            return false;
+        }
+        self.steep.sent == self.flat.sent
+    }
+
+    // The earliest tick at which that many bytes are due: both pieces stand so.
+    pub fn deadline(self, curve: Curve, bytes: u64) -> u64
         requires { ⌜ Rising curve × (bytes ≤ mostBytes) × (self .steep .start ≤ mostStart) × (self .flat .start ≤ mostStart) ⌝ }
         ensures { λ r. ⌜ DueAt curve self bytes r ⌝ }
     {
-        both(curve, self, bytes, near)
+        let steep = arrival(curve, self.steep, bytes);
+        if self.is_one() {
+            return steep;
+        }
+        later(steep, arrival(curve, self.flat, bytes))
     }
 
-    // The earliest tick at which the leaf may send more than that many bytes.
-    pub fn eligible(self, curve: Curve, bytes: u64, near: u64) -> u64
+    // The earliest tick at which the leaf may send more than that many bytes: the same without the delay. It is
+    // written out, since a call of `deadline` would hand curve and pieces over in memory.
+    pub fn eligible(self, curve: Curve, bytes: u64) -> u64
         requires { ⌜ Rising curve × (bytes ≤ mostBytes) × (self .steep .start ≤ mostStart) × (self .flat .start ≤ mostStart) ⌝ }
         ensures { λ r. ⌜ EligibleAt curve self bytes r ⌝ }
     {
-        both(undelayed(curve), self, bytes, near)
+        let early = undelayed(curve);
+        let steep = arrival(early, self.steep, bytes);
+        if self.is_one() {
+            return steep;
+        }
+        later(steep, arrival(early, self.flat, bytes))
     }
 }

@@ -141,9 +141,8 @@ fn bring_up(words: &mut Words, class: usize)
 {
     let rate = share_of(words, class);
     let sent = get(words, class, SENT);
-    let near = get(words, class, VIRTUAL);
     let piece = fair_piece(words, class);
-    let time = curve::pieces::arrival(Curve::Straight { rate }, piece, sent, near);
+    let time = curve::pieces::arrival(Curve::Straight { rate }, piece, sent);
     put(words, class, VIRTUAL, time);
 }
 

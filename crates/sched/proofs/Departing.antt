@@ -16,7 +16,7 @@ use Rattle.curve.specs.Pieces.{Deadline, Eligible}
 use Rattle.curve.specs.Keeping.{BothStand, early, keptOf, Orderly, latestSent}
 use Rattle.curve.specs.declared.Curve.{Curve}
 use Rattle.curve.specs.declared.Piece.{Piece}
-use Rattle.curve.proofs.Laws.Kept.{deadline-kept, eligible-kept}
+use Rattle.curve.proofs.Laws.Kept.{deadline-kept, kept-deadline, eligible-kept}
 use Rattle.curve.proofs.Laws.Order.{le-or-lt}
 use Rattle.tree.specs.declared.Tree.{Tree}
 use Rattle.rules.specs.declared.Rule.{Rule}
@@ -164,6 +164,11 @@ pub deadline-from : (S : Curve) → Rising S → (ps : List Piece) → HasPiece 
     → Least (BothStand S (keptOf S ps) (c + n)) d → Deadline S ps (c + n) d
 deadline-from S rising [] some order c n less one = absurd some
 deadline-from S rising (p ∷ ps) some order c n less one = deadline-kept S rising p ps order (omega (arith, less))
+
+pub deadline-into : (S : Curve) → Rising S → (ps : List Piece) → HasPiece ps → Orderly ps → (c n : ℕ) → latestSent ps ≤ c → 1 ≤ n → {d : ℕ}
+    → Deadline S ps (c + n) d → Least (BothStand S (keptOf S ps) (c + n)) d
+deadline-into S rising [] some order c n less one = absurd some
+deadline-into S rising (p ∷ ps) some order c n less one = kept-deadline S rising p ps order (omega (arith, less))
 
 pub eligible-from : (S : Curve) → Rising S → (ps : List Piece) → HasPiece ps → Orderly ps → (c : ℕ) → latestSent ps ≤ c → {e : ℕ}
     → Least (BothStand (early S) (keptOf S ps) c) e → Eligible S ps c e

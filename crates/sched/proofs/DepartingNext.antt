@@ -29,13 +29,13 @@ use Rattle.rules.proofs.Leaves.{pieces-in-order, has-piece}
 use Rattle.state.specs.Table.{at, CLASSES, slotOf}
 use Rattle.state.specs.Columns.{KIND, NEXT-NUMBER, HEAD-NUMBER, SENT-REAL-TIME, STEEP-START, STEEP-SENT, FLAT-START, FLAT-SENT, ELIGIBLE, DEADLINE, ACTIVE, NEVER}
 use Rattle.state.specs.State.{keptFor, hasTimes, ShowsTree}
-use Rattle.state.specs.Steps.{curveIn, keptIn, withTimes, RipeTick, DueTick, LeafOnly, Planted, Timable, NextRipe, NextTimed, untimed, timed, ShowsTimes}
+use Rattle.state.specs.Steps.{curveIn, keptIn, withTimes, SentIsDue, RipeTick, DueTick, LeafOnly, Planted, Timable, NextRipe, NextTimed, untimed, timed, ShowsTimes}
 use Rattle.fair.specs.Steps.{BeforeRest, AfterRest}
 use Rattle.sched.specs.StepsDeparting.{BeforeSettle, AfterSettle}
 use Rattle.state.proofs.LeafCells.{kind-none, kind-some, curve-in, narrow-code, curve-rises, kept-curved, kept-soon, tree-cells, only-none, times-with}
 use Rattle.state.proofs.Resting.{still-active}
 use Rattle.state.proofs.Choosing.{count-most}
-use Rattle.sched.proofs.Departing.{kept-stay, pieces-stay, bytes-fair, head-at, deadline-from, eligible-from}
+use Rattle.sched.proofs.Departing.{kept-stay, pieces-stay, bytes-fair, bytes-real, head-at, deadline-from, deadline-into, eligible-from}
 
 some-nonempty : (ns : List ℕ) → 0 < length ns → isNonempty ns ≡ true
 some-nonempty [] l = absurd (omega arith)
@@ -122,6 +122,16 @@ module _ {m l : List ℕ} {tree : Tree} {cs : List Call} {j t : ℕ} {r : Rule} 
         kept = kept-soon tree cs (b .planted .lawful) (b .kept);
         short = short;
       }
+
+  -- by the real-time rule the old head's bytes are counted now: those that its deadline asked for
+  pub sent-is-due : (at m j KIND ≡ 0 → ⊥) → r ≡ RealTime → SentIsDue m j
+  sent-is-due some real =
+      let order = pieces-in-order tree cs (b .planted .lawful) j in
+      let head = b .times .deadline (and-both (waits cs j) (hasCurve (curveOf tree j)) waiting (curved some)) in
+      let counted : sentRealTime (left t j r ∷ cs) j ≡ sentRealTime cs j + weigh (headLength cs j) = ap (λ (x : Rule). sentRealTime (left t j x ∷ cs) j) real ∙ bytes-real t j cs in
+      stands-is (sym (curve-in shows)) (sym (b .kept ∙ kept-curved tree cs j (curved some))) (sym (b .bytes ∙ counted))
+      (deadline-into (curveOf tree j) (curve-rising tree grown j class (curved some)) (pieces cs j) (has-piece cs j waiting) (order .order)
+      (sentRealTime cs j) (weigh (headLength cs j)) (order .sent) (weigh-some (headLength cs j) (head-length tree cs (b .planted .lawful) j waiting .0)) head)
 
   kept-after : keptIn m j ≡ keptFor tree (left t j r ∷ cs) j
   kept-after = b .kept ∙ sym (kept-stay t j r cs tree j)

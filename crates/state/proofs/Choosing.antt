@@ -93,34 +93,29 @@ RipeCell m tick k = at m k ELIGIBLE ≤ tick
 abbrev pub dueCell : List ℕ → ℕ → ℕ
 dueCell m k = at m k DEADLINE
 
-abbrev pub FoundSoonest : List ℕ → ℕ → ℕ → ℕ → LeafFound → Type 0
-FoundSoonest m tick n least (LeafFound.At j) = Leads (RipeCell m tick) (dueCell m) n j least
-FoundSoonest m tick n least LeafFound.Nothing = least ≡ NEVER
-
-pub soonest-more : (m : List ℕ) (tick n least : ℕ) (found : LeafFound) → FoundSoonest m tick n least found → FoundSoonest m tick (suc n) least found
-soonest-more m tick n least (LeafFound.At j) h = leads-more (RipeCell m tick) (dueCell m) n least h
-soonest-more m tick n least LeafFound.Nothing h = h
-
--- one turn of the walk
-pub record Looked (m : List ℕ) (tick n least : ℕ) (found : LeafFound) : Type 0 where
+-- one turn of the walk: the least deadline yet, and where it is below what a cell holds the class that leads
+pub record Looked (m : List ℕ) (tick n least best : ℕ) : Type 0 where
   pub passed : Passed (RipeCell m tick) (dueCell m) n least
-  pub met : FoundSoonest m tick n least found
+  pub met : (least ≡ NEVER → ⊥) → Leads (RipeCell m tick) (dueCell m) n best least
 
-pub looked-none : (m : List ℕ) (tick : ℕ) → Looked m tick 0 NEVER LeafFound.Nothing
-looked-none m tick = record { passed = passed-none (RipeCell m tick) (dueCell m) NEVER; met = refl }
+pub looked-none : (m : List ℕ) (tick : ℕ) → Looked m tick 0 NEVER 0
+looked-none m tick = record { passed = passed-none (RipeCell m tick) (dueCell m) NEVER; met = λ some. absurd (some refl) }
 
-module _ (m : List ℕ) (tick n least : ℕ) (found : LeafFound) (before : Looked m tick n least found) {least′ : ℕ} {found′ : LeafFound} where
-  pub looked-past : (RipeCell m tick n → least ≤ dueCell m n) → found′ ≡ found → least′ ≡ least → Looked m tick (n + 1) least′ found′
+module _ (m : List ℕ) (tick n least best : ℕ) (before : Looked m tick n least best) {least′ best′ : ℕ} where
+  pub looked-past : (RipeCell m tick n → least ≤ dueCell m n) → best′ ≡ best → least′ ≡ least → Looked m tick (n + 1) least′ best′
   looked-past this e f =
       rw (add-one, e, f)
-      (record { passed = passed-more (RipeCell m tick) (dueCell m) n least this (before .passed); met = soonest-more m tick n least found (before .met) })
+      (record {
+        passed = passed-more (RipeCell m tick) (dueCell m) n least this (before .passed);
+        met = λ some. leads-more (RipeCell m tick) (dueCell m) n least (before .met some);
+      })
 
-  pub looked-new : RipeCell m tick n → dueCell m n < least → found′ ≡ LeafFound.At n → least′ ≡ dueCell m n → Looked m tick (n + 1) least′ found′
+  pub looked-new : RipeCell m tick n → dueCell m n < least → best′ ≡ n → least′ ≡ dueCell m n → Looked m tick (n + 1) least′ best′
   looked-new ripe less e f =
       rw (add-one, e, f)
       (record {
         passed = passed-new (RipeCell m tick) (dueCell m) n least less (before .passed);
-        met = leads-new (RipeCell m tick) (dueCell m) n least ripe less (before .passed);
+        met = λ some. leads-new (RipeCell m tick) (dueCell m) n least ripe less (before .passed);
       })
 
 module _ (m : List ℕ) (tree : Tree) (cs : List Call) (told : Told m tree cs) (tick : ℕ) (inTime : tick ≤ lastTick) where
@@ -147,26 +142,26 @@ module _ (m : List ℕ) (tree : Tree) (cs : List Call) (told : Told m tree cs) (
       (λ (e : hasTimes tree cs k ≡ false). absurd (omega (arith, told .leaves k below .never e)))
       (decided (hasTimes tree cs k))
 
-  rightly : (n least : ℕ) (found : LeafFound) → n ≡ tree .count → Passed (RipeCell m tick) (dueCell m) n least → FoundSoonest m tick n least found
-      → Soonest tree cs tick found
-  rightly n least (LeafFound.At j) e passed leads =
-      record {
-        deadline = least;
-        first =
-            record {
-              meant = subst (Contends tree cs tick j) (leads .has) (cell-contends j (omega (arith, leads .below)) (leads .meant));
-              smallest = λ k y c. let (below, ripe, due) = contends-cell k y c in omega (arith, passed k (omega arith) ripe);
-              lowest = λ k c.
-                  let (below, ripe, due) = contends-cell k least c in
-                  ⊎-elim (λ (h : j ≤ k). h) (λ (h : k < j). absurd (omega (arith, leads .lower k h ripe))) (le-or-lt j k);
-            };
-      }
-  rightly n least LeafFound.Nothing e passed never-found = λ k d c.
-      let (below, ripe, due) = contends-cell k d c in
-      omega (arith, passed k (omega arith) ripe, deadline-below tree (told .grown) cs (told .lawful) k d (c .waiting) (c .curved) (c .isDeadline))
+  module _ (n least best : ℕ) (all : n ≡ tree .count) (looked : Looked m tick n least best) where
+    pub soonest-some : (least ≡ NEVER → ⊥) → Soonest tree cs tick (LeafFound.At best)
+    soonest-some some =
+        let leads = looked .met some in
+        record {
+          deadline = least;
+          first =
+              record {
+                meant = subst (Contends tree cs tick best) (leads .has) (cell-contends best (omega (arith, leads .below)) (leads .meant));
+                smallest = λ k y c. let (below, ripe, due) = contends-cell k y c in omega (arith, looked .passed k (omega arith) ripe);
+                lowest = λ k c.
+                    let (below, ripe, due) = contends-cell k least c in
+                    ⊎-elim (λ (h : best ≤ k). h) (λ (h : k < best). absurd (omega (arith, leads .lower k h ripe))) (le-or-lt best k);
+              };
+        }
 
-  pub soonest-right : (n least : ℕ) (found : LeafFound) → n ≡ tree .count → Looked m tick n least found → Soonest tree cs tick found
-  soonest-right n least found e looked = rightly n least found e (looked .passed) (looked .met)
+    pub soonest-none : least ≡ NEVER → Soonest tree cs tick LeafFound.Nothing
+    soonest-none e = λ k d c.
+        let (below, ripe, due) = contends-cell k d c in
+        omega (arith, looked .passed k (omega arith) ripe, deadline-below tree (told .grown) cs (told .lawful) k d (c .waiting) (c .curved) (c .isDeadline))
 
 -- The fair rule: one step down.
 

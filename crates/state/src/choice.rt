@@ -34,18 +34,21 @@ fn soonest(words: &Words, tick: u64) -> LeafFound
     ensures { λ r. ⌜ EveryCalls (Told (now (words .entry))) (λ tree cs. Soonest tree cs tick r) ⌝ }
 {
     let count = header(words, COUNT) as usize;
-    let mut found = LeafFound::Nothing;
+    let mut best: usize = 0;
     let mut least: u64 = LARGEST;
     for i in 0..count {
         if get(words, i, ELIGIBLE) <= tick {
             let deadline = get(words, i, DEADLINE);
             if deadline < least {
                 least = deadline;
-                found = LeafFound::At(i);
+                best = i;
             }
         }
     }
-    found
+    if least == LARGEST {
+        return LeafFound::Nothing;
+    }
+    LeafFound::At(best)
 }
 
 // The active child of smallest virtual time, then of lowest number.

@@ -23,10 +23,11 @@ ghost use mathlib.Core.Path.{_≡_};
 ghost use Prim.Native.Nat.{_+_, _≤_, _<_, _^_};
 ghost use Rattle.curve.specs.Curves.{Rising};
 ghost use Rattle.curve.specs.Keeping.{mostBytes, keptWith};
+ghost use Rattle.rules.specs.declared.Rule.the-variants.{RealTime};
 ghost use Rattle.state.specs.Table.{at, CLASSES};
 ghost use Rattle.state.specs.Columns as col;
 ghost use Rattle.state.specs.Heads.{SomeCalls, EveryCalls};
-ghost use Rattle.state.specs.Steps.{curveIn, keptIn, withKept, withTimes, timesIn, counted, NarrowCode, KeptSoon, Timable, RipeTick, DueTick, BeforeTiming, AfterTiming, NextTimed};
+ghost use Rattle.state.specs.Steps.{curveIn, keptIn, withKept, withTimes, timesIn, counted, NarrowCode, KeptSoon, Timable, RipeTick, DueTick, isDelayed, SentIsDue, BeforeTiming, AfterTiming, NextTimed};
 
 // The class's curve, as the enum.
 fn curve_of(words: &Words, class: usize) -> Curve
@@ -115,22 +116,22 @@ fn add_piece(words: &mut Words, class: usize, tick: u64)
     put_kept(words, class, kept);
 }
 
-// The eligible time of the leaf's head, sought from `near` on.
-fn ripe(words: &Words, class: usize, near: u64) -> u64
+// The eligible time of the leaf's head.
+fn ripe(words: &Words, class: usize) -> u64
     requires { ⌜ (class < CLASSES) × NarrowCode (now words) class × Rising (curveIn (now words) class) × (at (now words) class col.SENT-REAL-TIME ≤ mostBytes) × KeptSoon (now words) class ⌝ }
     ensures { λ r. ⌜ RipeTick (now (words .entry)) class r ⌝ }
 {
     let sent = get(words, class, SENT_REAL_TIME);
-    kept_of(words, class).eligible(curve_of(words, class), sent, near)
+    kept_of(words, class).eligible(curve_of(words, class), sent)
 }
 
-// The deadline of the leaf's head, of this length, sought from `near` on.
-fn due(words: &Words, class: usize, length: u32, near: u64) -> u64
+// The deadline of the leaf's head, of this length.
+fn due(words: &Words, class: usize, length: u32) -> u64
     requires { ⌜ (class < CLASSES) × Timable (now words) class length ⌝ }
     ensures { λ r. ⌜ DueTick (now (words .entry)) class length r ⌝ }
 {
     let bytes = get(words, class, SENT_REAL_TIME) + rules::weigh(length);
-    kept_of(words, class).deadline(curve_of(words, class), bytes, near)
+    kept_of(words, class).deadline(curve_of(words, class), bytes)
 }
 
 // The piece of a backlog instant, and the times of the head.
@@ -142,25 +143,53 @@ pub fn time_first(words: &mut Words, class: usize, tick: u64, length: u32)
         return;
     }
     add_piece(words, class, tick);
-    let eligible = ripe(words, class, tick);
-    let deadline = due(words, class, length, eligible);
+    let eligible = ripe(words, class);
+    let deadline = due(words, class, length);
     put_times(words, class, eligible, deadline);
+}
+
+// Whether the leaf's curve is a delayed one.
+fn is_delayed(words: &Words, class: usize) -> bool
+    requires { ⌜ (class < CLASSES) × NarrowCode (now words) class ⌝ }
+    ensures { λ r. ⌜ r ≡ isDelayed (curveIn (now (words .entry)) class) ⌝ }
+{
+    match curve_of(words, class) {
+        Curve::None => false,
+        Curve::Straight { rate: _ } => false,
+        Curve::FrontLoaded {
+            first: _,
+            bend: _,
+            last: _,
+        } => false,
+        Curve::Delayed { bend: _, rate: _ } => true,
+    }
+}
+
+// The eligible time of the leaf's new head, after one left by the real-time rule. It asks for the bytes that the
+// old head's deadline asked for, so it is that deadline, but for a delayed curve, which is read without its delay.
+fn ripe_next(words: &Words, class: usize) -> u64
+    requires { ⌜ (class < CLASSES) × NarrowCode (now words) class × Rising (curveIn (now words) class) × (at (now words) class col.SENT-REAL-TIME ≤ mostBytes) × KeptSoon (now words) class × SentIsDue (now words) class ⌝ }
+    ensures { λ r. ⌜ RipeTick (now (words .entry)) class r ⌝ }
+{
+    if is_delayed(words, class) {
+        return ripe(words, class);
+    }
+    get(words, class, DEADLINE)
 }
 
 // The times of the leaf's new head, after one left by that rule: the eligible time stays the same after
 // a departure by the fair rule.
 pub fn time_next(words: &mut Words, class: usize, rule: Rule, length: u32)
-    requires { ⌜ (class < CLASSES) × ((at (now words) class col.KIND ≡ 0 → ⊥) → Timable (now words) class length) ⌝ }
+    requires { ⌜ (class < CLASSES) × ((at (now words) class col.KIND ≡ 0 → ⊥) → Timable (now words) class length) × ((at (now words) class col.KIND ≡ 0 → ⊥) → rule ≡ RealTime → SentIsDue (now words) class) ⌝ }
     ensures { λ r. ⌜ NextTimed (now (words .entry)) (now (words .exit)) class length rule ⌝ }
 {
     if get(words, class, KIND) == 0 {
         return;
     }
-    let near = get(words, class, ELIGIBLE);
     let eligible = match rule {
-        Rule::RealTime => ripe(words, class, near),
-        Rule::Fair => near,
+        Rule::RealTime => ripe_next(words, class),
+        Rule::Fair => get(words, class, ELIGIBLE),
     };
-    let deadline = due(words, class, length, eligible);
+    let deadline = due(words, class, length);
     put_times(words, class, eligible, deadline);
 }

@@ -4,9 +4,7 @@ use Prim.Native.Nat.{ℕ, _+_, _-_, _*_, _/_, _%_, _≤_, _<_, _^_, min}
 use mathlib.Core.Path.{_≡_, refl, ap}
 use native.Mathlib.Nat.{mul-le-mul-left, mul-le-mul-right, mul-le-mul, le-trans, add-le-add, le-of-eq, le-of-lt, le-dest, mul-add, mul-zero, div-add-mod'}
 use native.Mathlib.Omega.{arith}
-use mathlib.Core.Logic.{⊎-elim}
-use Rattle.curve.proofs.Laws.Order.{le-or-lt}
-use Rattle.curve.specs.Curves.{whole, latestBend, amount, RightRate, Rising, inParts, lastSlope, firstSlope}
+use Rattle.curve.specs.Curves.{latestBend, amount, RightRate, Rising, lastSlope, firstSlope}
 use Rattle.curve.specs.Pieces.{lead}
 use Rattle.curve.specs.declared.Curve.{Curve}
 use Rattle.curve.specs.declared.Curve.the-variants.{None, Straight, FrontLoaded, Delayed}
@@ -61,20 +59,6 @@ amount-sum (FrontLoaded m₁ d m₂) r x y =
     (le-of-eq (rw native.Mathlib.Nat.add-zero refl))
 amount-sum (Delayed d m) r x y = le-trans (mul-le-mul-left m (omega arith)) (le-of-eq (mul-add m (x + d - d) (y - d)))
 
--- read as the eligible time reads it, a curve is higher by 2^36 at the most
-pub lead-rise : (S : Curve) → Rising S → (x : ℕ) → amount S (x + lead S) ≤ amount S x + whole * latestBend
-unfolding amount Rising
-lead-rise (Straight m) r x = rw native.Mathlib.Nat.add-zero (omega arith)
-lead-rise (FrontLoaded m₁ d m₂) r x = rw native.Mathlib.Nat.add-zero (omega arith)
-lead-rise (Delayed d m) r x =
-    let a : m * (x + d - d) ≤ m * (x - d + d) = mul-le-mul-left m (omega arith) in
-    omega (arith, mul-le-mul (r .rate .below) (r .bend .below))
-
-pub amount-doubled : (S : Curve) → Rising S → (x : ℕ) → amount S (2 * x) ≤ 2 * amount S x + whole * latestBend
-amount-doubled S r x =
-    let e : 2 * x ≡ x + x = omega arith in
-    rw e (omega (arith, amount-sum S r x x, lead-rise S r x))
-
 -- a front-loaded curve up to its bend, and past it
 pub front-before : (m₁ d m₂ t : ℕ) → t ≤ d → m₁ * t ≡ amount (FrontLoaded m₁ d m₂) t
 unfolding amount
@@ -106,38 +90,6 @@ unfolding Rising
 rising-slopes (Straight m) r = (r, r)
 rising-slopes (FrontLoaded m₁ d m₂) r = (r .first, r .last)
 rising-slopes (Delayed d m) r = (r .rate, r .rate)
-
-pub rising-most : (S : Curve) → Rising S → (x : ℕ) → amount S x ≤ inParts x
-rising-most S r = amount-most whole S (rising-slopes S r .0 .below) (rising-slopes S r .1 .below)
-
-line-most : {m : ℕ} → RightRate m → (x y : ℕ) → x ≤ y + latestBend → m * x ≤ m * y + whole * latestBend
-line-most {m} r x y l = omega (arith, mul-le-mul-left m l, mul-le-mul (r .below) (native.Mathlib.Nat.le-refl latestBend))
-
--- a curve has at least what its last slope has risen past the longest bend, and little more
-pub last-slope-least : (S : Curve) → Rising S → (t : ℕ) → lastSlope S * (t - latestBend) ≤ amount S t
-unfolding amount Rising
-last-slope-least (Straight m) r t = mul-le-mul-left m (omega arith)
-last-slope-least (FrontLoaded m₁ d m₂) r t = let a : m₂ * (t - latestBend) ≤ m₂ * (t - d) = mul-le-mul-left m₂ (omega (arith, r .bend .below)) in omega arith
-last-slope-least (Delayed d m) r t = mul-le-mul-left m (omega (arith, r .bend .below))
-
-pub last-slope-most : (S : Curve) → Rising S → (t : ℕ) → amount S t ≤ lastSlope S * (t - latestBend) + 2 * (whole * latestBend)
-unfolding amount Rising
-last-slope-most (Straight m) r t = omega (arith, line-most r t (t - latestBend) (omega arith))
-last-slope-most (FrontLoaded m₁ d m₂) r t =
-    let l : min t d ≤ latestBend = omega (arith, r .bend .below) in
-    omega (arith, mul-le-mul (r .first .below) l, line-most (r .last) (t - d) (t - latestBend) (omega arith))
-last-slope-most (Delayed d m) r t = omega (arith, line-most (r .rate) (t - d) (t - latestBend) (omega arith))
-
--- so a tick at which an amount is not reached is not far past that amount
-pub rising-soon : (S : Curve) → Rising S → {t y : ℕ} → amount S t < y → t < y + latestBend
-rising-soon S r {t} {y} h = ⊎-elim (λ l. omega arith) (λ l. far (omega arith)) (le-or-lt t latestBend)
-  where
-    far : t - latestBend + latestBend ≡ t → t < y + latestBend
-    far e = omega (arith, rw e at (rising-reaches S r (t - latestBend)))
-
--- what is reached at one tick and not at another: the other is earlier
-pub reached-later : (S : Curve) {m u y : ℕ} → amount S m < y → y ≤ amount S u → m < u
-reached-later S {m} {u} {y} h k = ⊎-elim (λ l. absurd (omega (arith, amount-mono S l))) (λ l. l) (le-or-lt u m)
 
 -- numbers of 32 bits have an amount of 64
 pub amount-fits : (S : Curve) (t : ℕ) → firstSlope S < 2 ^ 32 → lastSlope S < 2 ^ 32 → t < 2 ^ 32 → amount S t < 2 ^ 64

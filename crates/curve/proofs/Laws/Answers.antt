@@ -1,15 +1,13 @@
--- What a test's answer tells, that a least number is one number, and how it is found from a number on.
+-- What a test's answer tells, that a least number is one number, and the least number of two things.
 -- Assumes nothing.
-use Prim.Native.Nat.{ℕ, _≤_, _<_}
+use Prim.Native.Nat.{ℕ, _≤_, max}
 use mathlib.Core.Path.{_≡_, refl, subst}
 use mathlib.Core.Bool.{Bool, true, false, not}
-use mathlib.Core.Logic.{⊎-elim}
-use native.Mathlib.Nat.{le-antisymm, le-trans}
+use native.Mathlib.Nat.{le-antisymm}
 use native.Mathlib.Omega.{arith}
 use lib.Dec.{leb}
 use borrow.Author.Tests.{leb-true, leb-false}
-use Rattle.curve.proofs.Laws.Order.{le-or-lt}
-use Rattle.curve.specs.Answers.{Least, NotBefore, Exactly}
+use Rattle.curve.specs.Answers.{Least, Exactly}
 
 -- the answer was true, or false
 pub told-yes : (b : Bool) {P : Type 0} → Exactly b P → b ≡ true → P
@@ -55,24 +53,11 @@ least-one {t = t} {u = u} h k = le-antisymm (h .least u (k .holds)) (k .least t 
 pub least-iff : {P Q : ℕ → Type 0} {t : ℕ} → ((u : ℕ) → P u → Q u) → ((u : ℕ) → Q u → P u) → Least P t → Least Q t
 least-iff {t = t} f g h = record { holds = f t (h .holds); least = λ u q. h .least u (g u q) }
 
--- the least number not before 0 is the least of all
-pub least-from-zero : {P : ℕ → Type 0} {t : ℕ} → Least (NotBefore 0 P) t → Least P t
-least-from-zero = least-iff (λ u h. h .holds) (λ u p. record { after = omega arith; holds = p })
-
--- so is the least not before another that it passes, if what holds once holds ever after
-pub least-from : {P : ℕ → Type 0} {from t : ℕ} → ((u v : ℕ) → u ≤ v → P u → P v) → Least (NotBefore from P) t → from < t → Least P t
-least-from {P} {from} {t} on h l =
+-- the least at which two things hold that, once they do, hold ever after: the later of the two
+pub least-both : {P Q R : ℕ → Type 0} {a b : ℕ} → ((u v : ℕ) → u ≤ v → P u → P v) → ((u v : ℕ) → u ≤ v → Q u → Q v)
+    → ((t : ℕ) → P t → Q t → R t) → ((t : ℕ) → R t → P t) → ((t : ℕ) → R t → Q t) → Least P a → Least Q b → Least R (max a b)
+least-both {a = a} {b = b} on-first on-second both first second h k =
     record {
-      holds = h .holds .holds;
-      least = λ u p. ⊎-elim (λ k. h .least u (record { after = k; holds = p }))
-          (λ k. absurd (omega (arith, h .least from (record { after = omega arith; holds = on u from (omega arith) p })))) (le-or-lt from u);
-    }
-
--- the least at which two things hold that, once they do, hold ever after: the least for the second, not before the least for the first
-pub least-after : {P Q R : ℕ → Type 0} {from a b : ℕ} → ((u v : ℕ) → u ≤ v → P u → P v) → ((t : ℕ) → P t → Q t → R t) → ((t : ℕ) → R t → P t) → ((t : ℕ) → R t → Q t)
-    → Least (NotBefore from P) a → Least (NotBefore a Q) b → Least (NotBefore from R) b
-least-after {a = a} {b = b} on both first second h k =
-    record {
-      holds = record { after = le-trans (h .holds .after) (k .holds .after); holds = both b (on a b (k .holds .after) (h .holds .holds)) (k .holds .holds) };
-      least = λ u r. k .least u (record { after = h .least u (record { after = r .after; holds = first u (r .holds) }); holds = second u (r .holds) });
+      holds = both (max a b) (on-first a (max a b) (omega arith) (h .holds)) (on-second b (max a b) (omega arith) (k .holds));
+      least = λ u r. omega (arith, h .least u (first u r), k .least u (second u r));
     }

@@ -322,10 +322,13 @@ pub kept-ripe : (S : Curve) → Rising S → (bytes t : ℕ) (p : Piece) (ps : L
     → BothStand (early S) (keptOf S (p ∷ ps)) bytes t → Ripe S (p ∷ ps) bytes t
 kept-ripe S r bytes t p ps o c b = due-ripe S (p ∷ ps) bytes t (kept-early-due S r bytes t p ps o c b)
 
--- The three answers over a whole list of pieces, from what is kept of it.
+-- The three answers over a whole list of pieces, from what is kept of it; and the deadline back.
 module _ (S : Curve) (rising : Rising S) (p : Piece) (ps : List Piece) (orderly : Orderly (p ∷ ps)) where
   pub deadline-kept : {bytes t : ℕ} → p .sent < bytes → Least (BothStand S (keptOf S (p ∷ ps)) bytes) t → Deadline S (p ∷ ps) bytes t
   deadline-kept {bytes} c = least-iff (λ u. kept-due S rising bytes u p ps orderly c) (λ u. due-kept S bytes u p ps orderly)
+
+  pub kept-deadline : {bytes t : ℕ} → p .sent < bytes → Deadline S (p ∷ ps) bytes t → Least (BothStand S (keptOf S (p ∷ ps)) bytes) t
+  kept-deadline {bytes} c = least-iff (λ u. due-kept S bytes u p ps orderly) (λ u. kept-due S rising bytes u p ps orderly c)
 
   pub eligible-kept : {bytes t : ℕ} → p .sent ≤ bytes → Least (BothStand (early S) (keptOf S (p ∷ ps)) bytes) t → Eligible S (p ∷ ps) bytes t
   eligible-kept {bytes} c =

@@ -1,11 +1,13 @@
 -- One piece: the earliest tick at which it stands at an amount, and which of two pieces is lower.
 -- Assumes nothing.
 use Prim.Native.Nat.{ℕ, _+_, _-_, _*_, _≤_, _<_, max}
-use mathlib.Core.Path.{_≡_, refl}
+use mathlib.Core.Path.{_≡_, refl, subst, ap}
+use mathlib.Core.Bool.{Bool, true, false}
 use native.Mathlib.Nat.{le-trans}
 use native.Mathlib.Omega.{arith}
-use borrow.Author.Tests.{le-leb, lt-leb}
-use Rattle.curve.specs.Answers.{Least, NotBefore}
+use lib.Dec.{eqb}
+use borrow.Author.Tests.{le-leb, lt-leb, eqb-true, eqb-false}
+use Rattle.curve.specs.Answers.{Least, Exactly}
 use Rattle.curve.specs.Curves.{latestBend, amount, inParts, Rising}
 use Rattle.curve.specs.Pieces.{standing}
 use Rattle.curve.specs.Keeping.{Reaches, lowerOf, Stands, BothStand, early}
@@ -13,13 +15,12 @@ use Rattle.curve.specs.declared.Curve.{Curve}
 use Rattle.curve.specs.declared.Curve.the-variants.{Straight, FrontLoaded, Delayed}
 use Rattle.curve.specs.declared.Piece.{Piece}
 use Rattle.curve.specs.declared.Kept.{Kept}
-use Rattle.curve.proofs.Laws.Answers.{least-after}
+use Rattle.curve.proofs.Laws.Answers.{least-iff, least-both}
 use Rattle.curve.proofs.Laws.Amount.{amount-mono, rising-reaches}
 
--- an earliest tick is at most 2^20 past the parts, or the tick that it was asked from
-pub earliest-most : (S : Curve) → Rising S → {y from e : ℕ} → Least (NotBefore from (Reaches S y)) e → e ≤ max from (y + latestBend)
-earliest-most S r {y} {from} h =
-    h .least (max from (y + latestBend)) (record { after = omega arith; holds = le-trans (rising-reaches S r y) (amount-mono S (omega arith)) })
+-- an earliest tick is at most 2^20 past the parts
+pub earliest-most : (S : Curve) → Rising S → {y e : ℕ} → Least (Reaches S y) e → e ≤ y + latestBend
+earliest-most S r {y} h = h .least (y + latestBend) (rising-reaches S r y)
 
 -- a fair piece: "65,536·w then, plus share·(v − mark)"
 pub standing-straight : (m : ℕ) (p : Piece) (t : ℕ) → standing (Straight m) p t ≡ inParts (p .sent) + m * (t - p .start)
@@ -39,26 +40,32 @@ standing-most S p s t l = omega (arith, amount-mono S {t = t - p .start} {u = t 
 pub stands-on : (S : Curve) (p : Piece) (bytes t u : ℕ) → t ≤ u → Stands S p bytes t → Stands S p bytes u
 stands-on S p bytes t u l h = record { begun = le-trans (h .begun) l; high = le-trans (h .high) (standing-mono S p l) }
 
--- so do both
-pub both-on : (S : Curve) (k : Kept) (bytes t u : ℕ) → t ≤ u → BothStand S k bytes t → BothStand S k bytes u
-both-on S k bytes t u l h = record { steep = stands-on S (k .steep) bytes t u l (h .steep); flat = stands-on S (k .flat) bytes t u l (h .flat) }
-
--- the earliest tick, not before another, at which a piece stands at an amount
-pub arrival-least : (S : Curve) (p : Piece) (bytes from : ℕ) {e : ℕ} → Least (NotBefore (from - p .start) (Reaches S (inParts (bytes - p .sent)))) e
-    → Least (NotBefore from (Stands S p bytes)) (p .start + e)
+-- the earliest tick at which a piece stands at an amount
+pub arrival-least : (S : Curve) (p : Piece) (bytes : ℕ) {e : ℕ} → Least (Reaches S (inParts (bytes - p .sent))) e → Least (Stands S p bytes) (p .start + e)
 unfolding standing
-arrival-least S p bytes from {e} h =
+arrival-least S p bytes {e} h =
     let q : p .start + e - p .start ≡ e = omega arith in
     record {
-      holds = record { after = omega (arith, h .holds .after); holds = record { begun = omega arith; high = rw q (omega (arith, h .holds .holds)) } };
-      least = λ u s. omega (arith, s .holds .begun, h .least (u - p .start) (record { after = omega (arith, s .after); holds = omega (arith, s .holds .high) }));
+      holds = record { begun = omega arith; high = rw q (omega (arith, h .holds)) };
+      least = λ u s. omega (arith, s .begun, h .least (u - p .start) (omega (arith, s .high)));
     }
 
--- the flat piece sought from where the steep one stands: there both do
-pub both-least : (S : Curve) (k : Kept) (bytes : ℕ) {from a b : ℕ} → Least (NotBefore from (Stands S (k .steep) bytes)) a → Least (NotBefore a (Stands S (k .flat) bytes)) b
-    → Least (NotBefore from (BothStand S k bytes)) b
+-- both stand so at the later of their ticks; where they are the same piece, at its tick
+pub both-least : (S : Curve) (k : Kept) (bytes : ℕ) {a b : ℕ} → Least (Stands S (k .steep) bytes) a → Least (Stands S (k .flat) bytes) b → Least (BothStand S k bytes) (max a b)
 both-least S k bytes =
-    least-after (stands-on S (k .steep) bytes) (λ t s f. record { steep = s; flat = f }) (λ t r. r .steep) (λ t r. r .flat)
+    least-both (stands-on S (k .steep) bytes) (stands-on S (k .flat) bytes) (λ t s f. record { steep = s; flat = f }) (λ t r. r .steep) (λ t r. r .flat)
+
+pub one-least : (S : Curve) (k : Kept) (bytes : ℕ) {a : ℕ} → k .steep ≡ k .flat → Least (Stands S (k .steep) bytes) a → Least (BothStand S k bytes) a
+one-least S k bytes e =
+    least-iff (λ t s. record { steep = s; flat = subst (λ (p : Piece). Stands S p bytes t) e s }) (λ t r. r .steep)
+
+-- two pieces that start together are one piece just where as many bytes were sent before
+pub one-exactly : (p q : Piece) → p .start ≡ q .start → Exactly (eqb (p .sent) (q .sent)) (p ≡ q)
+one-exactly p q e = by (eqb (p .sent) (q .sent)) refl
+  where
+    by : (t : Bool) → eqb (p .sent) (q .sent) ≡ t → Exactly t (p ≡ q)
+    by true f = let sent = eqb-true (p .sent) (q .sent) f in λ i. record { start = e i; sent = sent i }
+    by false f = λ h. eqb-false (p .sent) (q .sent) f (ap (λ (x : Piece). x .sent) h)
 
 -- the code's comparison of two pieces is the definition's
 pub lower-new : (m : ℕ) (old new : Piece) → inParts (new .sent - old .sent) ≤ m * (new .start - old .start) → new ≡ lowerOf m old new

@@ -18,17 +18,14 @@ share-of-requires c κs = search needs
 get-requires : tie.Need-get-requires
 get-requires c κs = search needs
 
-get-requires-2 : tie.Need-get-requires-2
-get-requires-2 c κs = search needs
-
 fair-piece-requires : tie.Need-fair-piece-requires
 fair-piece-requires c κs = search needs
 
 arrival-requires : tie.Need-arrival-requires
 arrival-requires c κs = (
-  rw (c .before .before .before .before .before .before .share-of .ensures) (straight-rising _ (c .before .before .before .before .before .before .before .before .pre .share)),
+  rw (c .before .before .before .before .share-of .ensures) (straight-rising _ (c .before .before .before .before .before .before .pre .share)),
   search needs,
-  rw (c .fair-piece .ensures) (c .before .before .before .before .before .before .before .before .pre .start),
+  rw (c .fair-piece .ensures) (c .before .before .before .before .before .before .pre .start),
 )
 
 put-requires : tie.Need-put-requires
@@ -40,8 +37,8 @@ returns c =
       time = c .before .before .arrival .result;
       isTime =
           simp (
-            c .before .before .before .before .before .before .before .before .before .share-of .ensures,
-            c .before .before .before .before .before .before .before .get .ensures,
+            c .before .before .before .before .before .before .before .share-of .ensures,
+            c .before .before .before .before .before .get .ensures,
             c .before .before .before .fair-piece .ensures,
           ) at (c .before .before .arrival .ensures);
       stored = c .put .ensures;
@@ -53,7 +50,6 @@ bring-up-spec =
     (tie.spec
     share-of-requires
     get-requires
-    get-requires-2
     fair-piece-requires
     arrival-requires
     put-requires

@@ -14,7 +14,7 @@ use Rattle.state.specs.Table.{at, slotOf}
 use Rattle.state.specs.Columns.{NEXT-NUMBER, HEAD-NUMBER}
 use Rattle.fair.specs.Steps.{BeforeRest, AfterRest}
 use Rattle.sched.specs.StepsDeparting.{BeforeSettle}
-use Rattle.sched.proofs.DepartingNext.{settle-class, next-waits, none-waits, next-length, next-short, next-timable, settled-next, settled-last, before-rest}
+use Rattle.sched.proofs.DepartingNext.{settle-class, next-waits, none-waits, next-length, next-short, next-timable, sent-is-due, settled-next, settled-last, before-rest}
 use Rattle.sched.proofs.settle.Statement.{statement}
 use Rattle.sched.proofs.settle.Tie as tie
 
@@ -52,7 +52,7 @@ cast-length c = omega (arith, short c (start c .pre .holds .holds))
 time-next-requires : tie.Need-time-next-requires
 time-next-requires c κs =
     let b = start (c .before) .pre .holds .holds in
-    (settle-class b, λ some. next-timable b _ (short (c .before) b) some)
+    (settle-class b, λ some. next-timable b _ (short (c .before) b) some, sent-is-due b)
 
 put-times-requires : tie.Need-put-times-requires
 put-times-requires c κs = settle-class (c .before .before .before .before .before .before .pre .holds .holds)
