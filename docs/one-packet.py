@@ -306,12 +306,20 @@ def tables(story):
     return rows, leaves
 
 
+def sentence(story):
+    """That the packet's eligible time is the deadline of the one before it, which left by the real-time rule."""
+    before = next(sent for sent in story.left if (sent.leaf, sent.packet.number) == (LEAF, NUMBER - 1))
+    if (before.rule, before.times.deadline, before.sent + held(before.packet.length)) != ("real-time", story.eligible, story.sent):
+        stop(f"number {NUMBER - 1} does not tell the eligible time of number {NUMBER}")
+    return [f"Number {NUMBER - 1} asked for {comma(story.sent)} bytes too, over the same pieces: its deadline was {comma(story.eligible)}."]
+
+
 def check_page(all_tables):
-    """The tables stand on the page, and each block under a file's name stands in that file."""
+    """The tables, and the sentence, stand on the page, and each block under a file's name stands in that file."""
     page = (REPO / "docs/ONE-PACKET.md").read_text()
     for table in all_tables:
         if "\n".join(table) not in page:
-            stop("this table is not on docs/ONE-PACKET.md:\n" + "\n".join(table))
+            stop("this is not on docs/ONE-PACKET.md:\n" + "\n".join(table))
     quotations = re.findall(r"^`(\S+)`:?\n\n((?:    .*\n|\n)+)", page, re.M)
     for name, block in quotations:
         for part in re.split(r"^ *\.\.\n", re.sub(r"^    ", "", block, flags=re.M), flags=re.M):
@@ -324,7 +332,7 @@ def main():
     calls = read_calls()
     story = follow(read_tree(), calls)
     (REPO / "docs/one-packet.svg").write_text(draw(story))
-    found = tables(story)
+    found = [*tables(story), sentence(story)]
     for table in found:
         print("\n".join(table) + "\n")
     count = check_page(found)

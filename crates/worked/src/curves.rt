@@ -5,7 +5,7 @@ use curve::Curve;
 use curve::Kept;
 use curve::Piece;
 ghost use Prim.Native.Nat.{_≤_};
-ghost use Rattle.curve.specs.Curves.{Rising};
+ghost use Rattle.curve.specs.Curves.{RightRate, RightFront, RightDelay};
 ghost use Rattle.curve.specs.Keeping.{mostBytes};
 
 pub fn run() {
@@ -14,6 +14,7 @@ pub fn run() {
     straight();
     front_loaded();
     delayed();
+    far_apart();
 }
 
 // At the place of class 0 no tree has a curve. At tick 1 these have 65,537 parts.
@@ -47,42 +48,64 @@ fn one_piece() {
     line(b"100 bytes eligible at", kept.eligible(curve, 100));
 }
 
-// The tick at which a piece from tick 10 on stands at that many bytes.
-fn stands(curve: Curve, bytes: u64) -> u64
-    requires { ⌜ Rising curve × (bytes ≤ mostBytes) ⌝ }
+const PIECE: Piece = Piece { start: 10, sent: 0 };
+
+// The tick at which a piece from tick 10 on stands at that many bytes, by kind of curve.
+fn on_straight(rate: u32, bytes: u64) -> u64
+    requires { ⌜ RightRate rate × (bytes ≤ mostBytes) ⌝ }
 {
-    let piece = Piece { start: 10, sent: 0 };
-    curve::pieces::arrival(curve, piece, bytes)
+    curve::pieces::arrival(Curve::Straight { rate }, PIECE, bytes)
+}
+
+fn on_front_loaded(first: u32, bend: u32, last: u32, bytes: u64) -> u64
+    requires { ⌜ RightFront first bend last × (bytes ≤ mostBytes) ⌝ }
+{
+    curve::pieces::arrival(Curve::FrontLoaded { first, bend, last }, PIECE, bytes)
+}
+
+fn on_delayed(bend: u32, rate: u32, bytes: u64) -> u64
+    requires { ⌜ RightDelay bend rate × (bytes ≤ mostBytes) ⌝ }
+{
+    curve::pieces::arrival(Curve::Delayed { bend, rate }, PIECE, bytes)
 }
 
 // 65,536 by 3 is 21,845 and a third; three bytes divide exactly.
 fn straight() {
     text(b"# straight 3 from tick 10\n");
-    let curve = Curve::Straight { rate: 3 };
-    line(b"1 byte at", stands(curve, 1));
-    line(b"3 bytes at", stands(curve, 3));
+    line(b"1 byte at", on_straight(3, 1));
+    line(b"3 bytes at", on_straight(3, 3));
 }
 
 // Two ticks a byte up to the bend, which has 50 bytes; past it as above.
 fn front_loaded() {
     text(b"# front-loaded 32,768 / 100 / 3 from tick 10\n");
-    let curve = Curve::FrontLoaded {
-        first: 32768,
-        bend: 100,
-        last: 3,
-    };
-    line(b"49 bytes at", stands(curve, 49));
-    line(b"50 bytes at", stands(curve, 50));
-    line(b"51 bytes at", stands(curve, 51));
+    line(b"49 bytes at", on_front_loaded(32768, 100, 3, 49));
+    line(b"50 bytes at", on_front_loaded(32768, 100, 3, 50));
+    line(b"51 bytes at", on_front_loaded(32768, 100, 3, 51));
 }
 
 // No byte is there at once; the first is 2 ticks past the bend.
 fn delayed() {
     text(b"# delayed 100 / 32,768 from tick 10\n");
-    let curve = Curve::Delayed {
-        bend: 100,
-        rate: 32768,
+    line(b"no bytes at", on_delayed(100, 32768, 0));
+    line(b"1 byte at", on_delayed(100, 32768, 1));
+}
+
+// 2^57 parts in 2^48 marks: at the link's rate the old piece has risen by 2^64 parts, and is above the new one; at a
+// rate of 1 by 2^48, and is below.
+fn far_apart() {
+    text(b"# a piece from mark 2^48 with 2^41 bytes, and one from 0 with none\n");
+    let old = Piece { start: 0, sent: 0 };
+    let new = Piece {
+        start: 281474976710656,
+        sent: 2199023255552,
     };
-    line(b"no bytes at", stands(curve, 0));
-    line(b"1 byte at", stands(curve, 1));
+    line(
+        b"at rate 65536 the lower from",
+        curve::pieces::lower(65536, old, new).start,
+    );
+    line(
+        b"at rate 1 the lower from",
+        curve::pieces::lower(1, old, new).start,
+    );
 }
