@@ -48,6 +48,14 @@ pub straight-rising : (m : ℕ) → RightRate m → Rising (Straight m)
 unfolding Rising
 straight-rising m r = r
 
+pub front-rising : (m₁ d m₂ : ℕ) → RightFront m₁ d m₂ → Rising (FrontLoaded m₁ d m₂)
+unfolding Rising
+front-rising m₁ d m₂ r = r
+
+pub delayed-rising : (d m : ℕ) → RightDelay d m → Rising (Delayed d m)
+unfolding Rising
+delayed-rising d m r = r
+
 -- what can be tested
 pub both-decided : {A B : Type 0} → Dec A → Dec B → Dec (A × B)
 both-decided (yes a) (yes b) = yes (a, b)

@@ -1,12 +1,12 @@
 -- `worked::curves::on_delayed` asks of a curve within the limits. Assumes nothing.
+use native.Mathlib.Omega.{arith}
 use borrow.Author.Needs.{needs}
-use Rattle.curve.specs.Curves.{Rising}
+use Rattle.curve.proofs.Laws.Limits.{delayed-rising}
 use Rattle.worked.proofs.curves.on_delayed.Statement.{statement}
 use Rattle.worked.proofs.curves.on_delayed.Tie as tie
 
 arrival-requires : tie.Need-arrival-requires
-unfolding Rising
-arrival-requires c κs = search needs
+arrival-requires c κs = (delayed-rising _ _ (c .pre .0), c .pre .1, omega arith)
 
 returns : tie.Need-returns
 returns c = search needs

@@ -1,12 +1,12 @@
 -- `worked::curves::on_front_loaded` asks of a curve within the limits. Assumes nothing.
+use native.Mathlib.Omega.{arith}
 use borrow.Author.Needs.{needs}
-use Rattle.curve.specs.Curves.{Rising}
+use Rattle.curve.proofs.Laws.Limits.{front-rising}
 use Rattle.worked.proofs.curves.on_front_loaded.Statement.{statement}
 use Rattle.worked.proofs.curves.on_front_loaded.Tie as tie
 
 arrival-requires : tie.Need-arrival-requires
-unfolding Rising
-arrival-requires c κs = search needs
+arrival-requires c κs = (front-rising _ _ _ (c .pre .0), c .pre .1, omega arith)
 
 returns : tie.Need-returns
 returns c = search needs

@@ -1,12 +1,12 @@
 -- `worked::curves::on_straight` asks of a curve within the limits. Assumes nothing.
+use native.Mathlib.Omega.{arith}
 use borrow.Author.Needs.{needs}
-use Rattle.curve.specs.Curves.{Rising}
+use Rattle.curve.proofs.Laws.Limits.{straight-rising}
 use Rattle.worked.proofs.curves.on_straight.Statement.{statement}
 use Rattle.worked.proofs.curves.on_straight.Tie as tie
 
 arrival-requires : tie.Need-arrival-requires
-unfolding Rising
-arrival-requires c κs = search needs
+arrival-requires c κs = (straight-rising _ (c .pre .0), c .pre .1, omega arith)
 
 returns : tie.Need-returns
 returns c = search needs

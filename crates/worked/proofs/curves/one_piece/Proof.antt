@@ -1,8 +1,14 @@
 -- `worked::curves::one_piece` asks of a curve within the limits. Assumes nothing.
 use borrow.Author.Needs.{needs}
+use native.Mathlib.Omega.{arith}
 use Rattle.curve.specs.Curves.{Rising}
+use Rattle.curve.specs.declared.Curve.the-variants.{Straight}
+use Rattle.curve.proofs.Laws.Limits.{straight-rising}
 use Rattle.worked.proofs.curves.one_piece.Statement.{statement}
 use Rattle.worked.proofs.curves.one_piece.Tie as tie
+
+rises : Rising (Straight 65536)
+rises = straight-rising 65536 (record { above = omega arith; below = omega arith })
 
 slice-aggregate-text : tie.Need-slice-aggregate-text
 slice-aggregate-text c = search needs
@@ -14,8 +20,7 @@ slice-aggregate-line : tie.Need-slice-aggregate-line
 slice-aggregate-line c = search needs
 
 arrival-requires : tie.Need-arrival-requires
-unfolding Rising
-arrival-requires c κs = search needs
+arrival-requires c κs = (rises, omega arith, omega arith)
 
 line-requires : tie.Need-line-requires
 line-requires c κs = search needs
@@ -24,8 +29,7 @@ slice-aggregate-line-2 : tie.Need-slice-aggregate-line-2
 slice-aggregate-line-2 c = search needs
 
 deadline-requires : tie.Need-deadline-requires
-unfolding Rising
-deadline-requires c κs = search needs
+deadline-requires c κs = (rises, omega arith, omega arith, omega arith)
 
 line-requires-2 : tie.Need-line-requires-2
 line-requires-2 c κs = search needs
@@ -34,8 +38,7 @@ slice-aggregate-line-3 : tie.Need-slice-aggregate-line-3
 slice-aggregate-line-3 c = search needs
 
 eligible-requires : tie.Need-eligible-requires
-unfolding Rising
-eligible-requires c κs = search needs
+eligible-requires c κs = (rises, omega arith, omega arith, omega arith)
 
 line-requires-3 : tie.Need-line-requires-3
 line-requires-3 c κs = search needs
