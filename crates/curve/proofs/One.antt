@@ -7,7 +7,8 @@ use mathlib.Core.Bool.{Bool}
 use mathlib.Core.List.{List}
 use Rattle.curve.specs.Curves.{RightCurve}
 use Rattle.curve.specs.Fit.{CurvesFit}
-use Rattle.curve.specs.Promises.{TellsRight, TellsFit, Encodes, Decodes, LowerPiece, ArrivesAt, KeptAfter, DueAt, EligibleAt}
+use Rattle.curve.specs.Keeping.{early}
+use Rattle.curve.specs.Promises.{TellsRight, TellsFit, Encodes, Decodes, TellsUndelayed, LowerPiece, ArrivesAt, KeptAfter, DueAt, EligibleAt}
 use Rattle.curve.specs.declared.Curve.{Curve}
 use Rattle.curve.specs.declared.Piece.{Piece}
 use Rattle.curve.specs.declared.Kept.{Kept}
@@ -25,6 +26,9 @@ encode-one S r s h k = h ∙ sym k
 
 pub decode-one : (kind x y z : ℕ) (r s : Curve) → Decodes kind x y z r → Decodes kind x y z s → r ≡ s
 decode-one kind x y z r s h k = h ∙ sym k
+
+pub is-undelayed-one : (S : Curve) (r s : Bool) → TellsUndelayed S r → TellsUndelayed S s → r ≡ s
+is-undelayed-one S r s = exactly-one r s (early S ≡ S)
 
 pub lower-one : (m : ℕ) (old new r s : Piece) → LowerPiece m old new r → LowerPiece m old new s → r ≡ s
 lower-one m old new r s h k = h ∙ sym k

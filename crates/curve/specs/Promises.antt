@@ -30,6 +30,10 @@ Encodes S r = r ≡ codeOf S
 abbrev pub Decodes : ℕ → ℕ → ℕ → ℕ → Curve → Type 0
 Decodes kind x y z r = r ≡ kindCurve kind x y z
 
+-- `is_undelayed`: true exactly if the eligible time goes by the curve as it is
+abbrev pub TellsUndelayed : Curve → Bool → Type 0
+TellsUndelayed S r = Exactly r (early S ≡ S)
+
 -- `lower`: of an old piece and a new one, that which is lower on a line of slope m from there on
 abbrev pub LowerPiece : ℕ → Piece → Piece → Piece → Type 0
 LowerPiece m old new r = r ≡ lowerOf m old new

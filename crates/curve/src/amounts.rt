@@ -7,7 +7,7 @@ ghost use Prim.Native.Nat.{_-_, _*_, _≤_, _<_, _^_};
 ghost use Rattle.curve.specs.Answers.{Exactly};
 ghost use Rattle.curve.specs.Curves.{Within, RightRate, RightBend, RightFront, RightDelay, amount, inParts, firstSlope, lastSlope};
 ghost use Rattle.curve.specs.Keeping.{mostBytes, early};
-ghost use Rattle.curve.specs.Promises.{TellsRight};
+ghost use Rattle.curve.specs.Promises.{TellsRight, TellsUndelayed};
 
 // Whether x is from low to high.
 fn within(low: u32, high: u32, x: u32) -> bool
@@ -161,5 +161,21 @@ pub(crate) fn undelayed(curve: Curve) -> Curve
         Curve::Straight { rate } => Curve::Straight { rate },
         Curve::FrontLoaded { first, bend, last } => Curve::FrontLoaded { first, bend, last },
         Curve::Delayed { bend: _, rate } => Curve::Straight { rate },
+    }
+}
+
+// Whether the curve is that already: the eligible time goes by the curve as it is.
+pub fn is_undelayed(curve: Curve) -> bool
+    ensures { λ r. ⌜ TellsUndelayed curve r ⌝ }
+{
+    match curve {
+        Curve::None => true,
+        Curve::Straight { rate: _ } => true,
+        Curve::FrontLoaded {
+            first: _,
+            bend: _,
+            last: _,
+        } => true,
+        Curve::Delayed { bend: _, rate: _ } => false,
     }
 }

@@ -2,19 +2,15 @@
 -- Assumes nothing.
 use Prim.Native.Nat.{ℕ, _+_}
 use mathlib.Core.Path.{_≡_, refl, _∙_}
-use mathlib.Core.Bool.{false}
 use mathlib.Core.List.{List}
 use borrow.Author.Tests.{eq-eqb, ne-eqb}
 use Rattle.curve.specs.Keeping.{early}
-use Rattle.curve.specs.declared.Curve.{Curve}
-use Rattle.curve.specs.declared.Curve.the-variants.{None, Straight, FrontLoaded, Delayed}
 use Rattle.rules.specs.declared.Rule.{Rule}
 use Rattle.rules.specs.declared.Rule.the-variants.{RealTime, Fair}
 use Rattle.rules.specs.declared.Times.the-variants.{Untimed, Timed}
-use Rattle.rules.proofs.Tests.{never}
 use Rattle.state.specs.Table.{at, with}
 use Rattle.state.specs.Columns.{KIND, SENT-REAL-TIME, ELIGIBLE, DEADLINE}
-use Rattle.state.specs.Steps.{curveIn, counted, timesIn, isDelayed, SentIsDue, RipeTick, NextRipe}
+use Rattle.state.specs.Steps.{curveIn, counted, timesIn, SentIsDue, RipeTick, NextRipe}
 
 pub times-bare : (m : List ℕ) (i : ℕ) → at m i KIND ≡ 0 → Untimed ≡ timesIn m i
 unfolding timesIn
@@ -33,15 +29,9 @@ pub counted-fair : (m : List ℕ) (i : ℕ) (r : Rule) (bytes : ℕ) → r ≡ F
 unfolding counted
 counted-fair m i r bytes e = rw e refl
 
--- a curve without a delay has none to be read without; so what was due at a tick is eligible there
-early-same : (S : Curve) → isDelayed S ≡ false → early S ≡ S
-early-same None e = refl
-early-same (Straight m) e = refl
-early-same (FrontLoaded m₁ d m₂) e = refl
-early-same (Delayed d m) e = never refl e
-
-pub ripe-due : (m : List ℕ) (i : ℕ) → isDelayed (curveIn m i) ≡ false → SentIsDue m i → RipeTick m i (at m i DEADLINE)
-ripe-due m i e due = rw (early-same (curveIn m i) e) due
+-- where the eligible time goes by the curve as it is, what was due at a tick is eligible there
+pub ripe-when-due : (m : List ℕ) (i : ℕ) → early (curveIn m i) ≡ curveIn m i → SentIsDue m i → RipeTick m i (at m i DEADLINE)
+ripe-when-due m i e due = rw e due
 
 pub ripe-real : (r : Rule) (m : List ℕ) (i : ℕ) → r ≡ RealTime → {e e′ : ℕ} → e′ ≡ e → RipeTick m i e → NextRipe r m i e′
 ripe-real r m i q p s = rw (q, p) s

@@ -9,7 +9,6 @@ use lib.Dec.{leb, ltb, eqb}
 use Rattle.curve.specs.Answers.{Least}
 use Rattle.curve.specs.Codec.{kindCurve}
 use Rattle.curve.specs.declared.Curve.{Curve}
-use Rattle.curve.specs.declared.Curve.the-variants.{None, Straight, FrontLoaded, Delayed}
 use Rattle.curve.specs.declared.Kept.{Kept}
 use Rattle.curve.specs.Curves.{Rising}
 use Rattle.curve.specs.Keeping.{mostStart, BothStand, early}
@@ -72,13 +71,6 @@ RipeTick m i eligible = Least (BothStand (early (curveIn m i)) (keptIn m i) (at 
 -- the deadline of a head of this length, by its columns
 abbrev pub DueTick : List ℕ → ℕ → (length deadline : ℕ) → Type 0
 DueTick m i length deadline = Least (BothStand (curveIn m i) (keptIn m i) (at m i SENT-REAL-TIME + weigh length)) deadline
-
--- whether the curve is a delayed one
-abbrev pub isDelayed : Curve → Bool
-isDelayed None = false
-isDelayed (Straight m) = false
-isDelayed (FrontLoaded m₁ d m₂) = false
-isDelayed (Delayed d m) = true
 
 -- the bytes sent by the real-time rule were due at the deadline that the leaf's columns have: that of the head that left last by it
 abbrev pub SentIsDue : List ℕ → ℕ → Type 0

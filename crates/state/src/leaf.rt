@@ -27,7 +27,7 @@ ghost use Rattle.rules.specs.declared.Rule.the-variants.{RealTime};
 ghost use Rattle.state.specs.Table.{at, CLASSES};
 ghost use Rattle.state.specs.Columns as col;
 ghost use Rattle.state.specs.Heads.{SomeCalls, EveryCalls};
-ghost use Rattle.state.specs.Steps.{curveIn, keptIn, withKept, withTimes, timesIn, counted, NarrowCode, KeptSoon, Timable, RipeTick, DueTick, isDelayed, SentIsDue, BeforeTiming, AfterTiming, NextTimed};
+ghost use Rattle.state.specs.Steps.{curveIn, keptIn, withKept, withTimes, timesIn, counted, NarrowCode, KeptSoon, Timable, RipeTick, DueTick, SentIsDue, BeforeTiming, AfterTiming, NextTimed};
 
 // The class's curve, as the enum.
 fn curve_of(words: &Words, class: usize) -> Curve
@@ -148,33 +148,16 @@ pub fn time_first(words: &mut Words, class: usize, tick: u64, length: u32)
     put_times(words, class, eligible, deadline);
 }
 
-// Whether the leaf's curve is a delayed one.
-fn is_delayed(words: &Words, class: usize) -> bool
-    requires { ⌜ (class < CLASSES) × NarrowCode (now words) class ⌝ }
-    ensures { λ r. ⌜ r ≡ isDelayed (curveIn (now (words .entry)) class) ⌝ }
-{
-    match curve_of(words, class) {
-        Curve::None => false,
-        Curve::Straight { rate: _ } => false,
-        Curve::FrontLoaded {
-            first: _,
-            bend: _,
-            last: _,
-        } => false,
-        Curve::Delayed { bend: _, rate: _ } => true,
-    }
-}
-
 // The eligible time of the leaf's new head, after one left by the real-time rule. It asks for the bytes that the
 // old head's deadline asked for, so it is that deadline, but for a delayed curve, which is read without its delay.
 fn ripe_next(words: &Words, class: usize) -> u64
     requires { ⌜ (class < CLASSES) × NarrowCode (now words) class × Rising (curveIn (now words) class) × (at (now words) class col.SENT-REAL-TIME ≤ mostBytes) × KeptSoon (now words) class × SentIsDue (now words) class ⌝ }
     ensures { λ r. ⌜ RipeTick (now (words .entry)) class r ⌝ }
 {
-    if is_delayed(words, class) {
-        return ripe(words, class);
+    if curve::amounts::is_undelayed(curve_of(words, class)) {
+        return get(words, class, DEADLINE);
     }
-    get(words, class, DEADLINE)
+    ripe(words, class)
 }
 
 // The times of the leaf's new head, after one left by that rule: the eligible time stays the same after

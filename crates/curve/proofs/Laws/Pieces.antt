@@ -82,3 +82,7 @@ unfolding Rising
 early-rising (Straight m) r = r
 early-rising (FrontLoaded m₁ d m₂) r = r
 early-rising (Delayed d m) r = r .rate
+
+-- and it is another curve
+pub delayed-not-early : (d m : ℕ) → early (Delayed d m) ≡ Delayed d m → ⊥
+delayed-not-early d m e = let z : _≡_ {A = ℕ} 0 1 = cc in absurd (omega arith)
