@@ -43,16 +43,21 @@ pub record Onward (h : History) (log : List ℕ) (k at : ℕ) (m l : List ℕ) :
 pub onward-first : {h : History} {log m l : List ℕ} → Lawful h → Shows m l h → Onward h log 0 0 m l
 onward-first {h = h} law shows = record { here = h; lawful = law; shows = shows; decides = λ v next j. j }
 
--- the next record, and what comes after it
-one : (log : List ℕ) (at : ℕ) → at < length log → drop at log ≡ getD log at 0 ∷ drop (at + 1) log
-one log at fits =
+-- a list of which nothing is left
+pub none-left : (x : List ℕ) → length x ≡ 0 → x ≡ []
+none-left [] z = refl
+none-left (a ∷ x) z = absurd (omega arith)
+
+-- the next number, the next record, and what comes after it
+pub one-more : (log : List ℕ) (at : ℕ) → at < length log → drop at log ≡ getD log at 0 ∷ drop (at + 1) log
+one-more log at fits =
     let next : suc at ≡ at + 1 = omega arith in
     drop-cons log at 0 fits ∙ ap (λ (i : ℕ). getD log at 0 ∷ drop i log) next
 
 four : (log : List ℕ) (at : ℕ) → at + 4 ≤ length log
     → drop at log ≡ getD log at 0 ∷ getD log (at + 1) 0 ∷ getD log (at + 2) 0 ∷ getD log (at + 3) 0 ∷ drop (at + 4) log
 four log at fits =
-    one log at (omega arith)
+    one-more log at (omega arith)
     ∙ ap (λ (l : List ℕ). getD log at 0 ∷ l) (then 1 (omega arith))
     ∙ ap (λ (l : List ℕ). getD log at 0 ∷ getD log (at + 1) 0 ∷ l) (then 2 (omega arith))
     ∙ ap (λ (l : List ℕ). getD log at 0 ∷ getD log (at + 1) 0 ∷ getD log (at + 2) 0 ∷ l) (then 3 (omega arith))
@@ -60,7 +65,7 @@ four log at fits =
     then : (i : ℕ) → i < 4 → drop (at + i) log ≡ getD log (at + i) 0 ∷ drop (at + (i + 1)) log
     then i few =
         let next : at + i + 1 ≡ at + (i + 1) = omega arith in
-        one log (at + i) (omega arith) ∙ ap (λ (j : ℕ). getD log (at + i) 0 ∷ drop j log) next
+        one-more log (at + i) (omega arith) ∙ ap (λ (j : ℕ). getD log (at + i) 0 ∷ drop j log) next
 
 module _ {h : History} {log : List ℕ} {k at : ℕ} {m l : List ℕ} (o : Onward h log k at m l) where
   module _ (fits : at + 4 ≤ length log) {m′ l′ : List ℕ} {found : Finding} (replays : EveryHistory m l (λ x. ReplayRight x (recordFrom log at) found m′ l′)) where
@@ -97,13 +102,9 @@ module _ {h : History} {log : List ℕ} {k at : ℕ} {m l : List ℕ} (o : Onwar
   onward-ended e =
       record {
         next = o .here;
-        judges = o .decides Accepted (o .here) (subst (λ (x : List ℕ). Judges (o .here) k x Accepted (o .here)) (sym (none (drop at log) (omega (arith, length-drop at log)))) ended);
+        judges = o .decides Accepted (o .here) (subst (λ (x : List ℕ). Judges (o .here) k x Accepted (o .here)) (sym (none-left (drop at log) (omega (arith, length-drop at log)))) ended);
         shows = o .shows;
       }
-    where
-      none : (x : List ℕ) → length x ≡ 0 → x ≡ []
-      none [] z = refl
-      none (a ∷ x) z = absurd (omega arith)
 
 -- the judgement of a whole log, from the promises of the start and of judging a part
 module _ {tree : Tree} {first : ℕ} {log m l : List ℕ} {answer : Verdict} (started : StartRight tree first answer m l) where

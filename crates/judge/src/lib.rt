@@ -143,7 +143,7 @@ fn of_empty(answer: Departure) -> Finding
 }
 
 // The judgement on a log whose first wrong record is that one.
-fn name(record: u64, finding: Finding) -> Judgement
+pub fn name(record: u64, finding: Finding) -> Judgement
     ensures { λ r. ⌜ r ≡ named «record» finding ⌝ }
 {
     match finding {

@@ -13,6 +13,7 @@ use borrow.Author.Tests.{ne-eqb, not-true}
 use Rattle.wording.specs.declared.Kind.the-variants.{Blank, Dark, Text}
 use Rattle.wording.specs.Letters.{space, lineFeed}
 use Rattle.wording.specs.Words.{isBlank, isOf, span, uncommented, begun, first, after}
+pub use Rattle.wording.specs.Words.{every, isPlain, Plain}
 use Rattle.wording.specs.Decimal.{digit, decimal}
 use Rattle.wording.proofs.Decimals.{decimal-small, decimal-more, by-digits}
 
@@ -21,11 +22,6 @@ pub both : (t u : Bool) → (t && u) ≡ true → (t ≡ true) × (u ≡ true)
 both true true e = (refl, refl)
 both true false e = (refl, e)
 both false u e = (e, cc)
-
--- every byte is meant; of a word spelled out, `refl` proves it
-abbrev pub every : (ℕ → Bool) → List ℕ → Bool
-every meant [] = true
-every meant (b ∷ s) = meant b && every meant s
 
 pub every-append : (meant : ℕ → Bool) (s t : List ℕ) → every meant s ≡ true → every meant t ≡ true → every meant (s ++ t) ≡ true
 every-append meant [] t h g = g
@@ -54,13 +50,6 @@ isDark = isOf Dark
 
 abbrev pub isText : ℕ → Bool
 isText = isOf Text
-
--- a byte of a plain word: no white space, no `#` and no end of a line
-abbrev pub isPlain : ℕ → Bool
-isPlain b = not (isBlank b) && (not (eqb b 35) && not (eqb b lineFeed))
-
-abbrev pub Plain : List ℕ → Type 0
-Plain word = every isPlain word ≡ true
 
 -- every digit is
 digit-plain : (d : ℕ) → d < 10 → isPlain (digit d) ≡ true

@@ -1,6 +1,7 @@
 -- The words of a line, as docs/FORMS.md sets them down.
 -- Assumes nothing.
 use Prim.Native.Nat.{ℕ, suc}
+use mathlib.Core.Path.{_≡_}
 use mathlib.Core.Bool.{Bool, true, false, cond, not, _&&_, _||_}
 use mathlib.Core.List.{List, [], _∷_}
 use lib.ListN.{take, drop}
@@ -22,6 +23,18 @@ isOf Text b = not (eqb b 35)
 -- "A file ends a line with a line feed": what is no end of a line
 abbrev pub isInner : ℕ → Bool
 isInner b = not (eqb b lineFeed)
+
+-- a byte of a plain word: no white space, no `#` and no end of a line
+abbrev pub isPlain : ℕ → Bool
+isPlain b = not (isBlank b) && (not (eqb b 35) && not (eqb b lineFeed))
+
+-- every byte is meant; of a word spelled out, `refl` proves it
+abbrev pub every : (ℕ → Bool) → List ℕ → Bool
+every meant [] = true
+every meant (b ∷ s) = meant b && every meant s
+
+abbrev pub Plain : List ℕ → Type 0
+Plain word = every isPlain word ≡ true
 
 -- how many bytes in front are meant
 unfoldable pub span : (ℕ → Bool) → List ℕ → ℕ

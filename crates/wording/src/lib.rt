@@ -64,7 +64,7 @@ pub fn number(word: &[u8]) -> Operand
 }
 
 // 2^32 stands for every number past 32 bits, so that digits without end do not wrap.
-fn capped(value: u64) -> u64
+pub fn capped(value: u64) -> u64
     ensures { λ r. ⌜ r ≡ min value (2 ^ 32) ⌝ }
 {
     if 4294967296 < value {
@@ -73,7 +73,8 @@ fn capped(value: u64) -> u64
     value
 }
 
-fn narrow(value: u64) -> Operand
+// A number that its digits made, capped so.
+pub fn narrow(value: u64) -> Operand
     ensures { λ r. ⌜ r ≡ narrowed value ⌝ }
 {
     if 4294967295 < value {
@@ -82,7 +83,7 @@ fn narrow(value: u64) -> Operand
     Operand::Of(value as u32)
 }
 
-fn wide(b: u8) -> u64
+pub fn wide(b: u8) -> u64
     ensures { λ r. ⌜ r ≡ b ⌝ }
 {
     b as u64
@@ -141,7 +142,8 @@ fn belongs(b: u8, kind: Kind) -> bool
     }
 }
 
-fn is_blank(b: u8) -> bool
+// Whether a byte is white space.
+pub fn is_blank(b: u8) -> bool
     ensures { λ r. ⌜ r ≡ isBlank b ⌝ }
 {
     if b == b' ' {

@@ -1,0 +1,3 @@
+-- The laws of a log's text.
+pub mod Steps
+pub mod Onward

@@ -1,0 +1,2 @@
+-- What is proved of a log's text. Each statement stands here under a name; a comment names the law of proofs/ that proves it.
+-- Assumes nothing.

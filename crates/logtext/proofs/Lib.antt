@@ -1,0 +1,4 @@
+pub mod Turns
+pub mod WordBytes
+pub mod WordReads
+pub mod RecordReads
