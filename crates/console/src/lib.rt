@@ -4,6 +4,7 @@
 mod trees;
 
 pub use trees::read_tree;
+pub use trees::tree_argument;
 ghost use Rattle.print.specs.Promises.{Within};
 use libc::STDERR_FILENO;
 use libc::STDOUT_FILENO;

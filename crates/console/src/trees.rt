@@ -5,6 +5,48 @@ use bursts::KEPT;
 use bursts::MOST_SEEN;
 use bursts::Seen;
 use bursts::Taken;
+use print::Answer;
+use tree::Tree;
+use tree::Verdict;
+
+// A tree, where there is one.
+pub struct Told {
+    pub is_there: bool,
+    pub tree: Tree,
+}
+
+// The tree of the class-tree file that the argument at that place names. Where there is none, since the file can't be read or is
+// refused, that is said.
+pub fn tree_argument(at: usize) -> Told {
+    let mut name = io::buffer();
+    let n = os::arg(at, &mut name);
+    if os::errno() != 0 {
+        os::fail(b"TREE");
+        return untold();
+    }
+    let taken = read_tree(&name[..n]);
+    let reads = taken.answer;
+    let Answered::Reads { verdict } = reads else {
+        return untold();
+    };
+    if let Verdict::Refused { why, class } = verdict {
+        crate::say(Answer::TreeRefused { why, class });
+        return untold();
+    }
+    let tree = taken.tree;
+    Told {
+        is_there: true,
+        tree,
+    }
+}
+
+fn untold() -> Told {
+    let tree = tree::empty();
+    Told {
+        is_there: false,
+        tree,
+    }
+}
 
 // What the class-tree file of that name reads as. Where it can't be read, that is said, and the answer is nothing yet, with no
 // tree.

@@ -1,26 +1,26 @@
 -- The line of a record reads as its four numbers.
 -- Assumes nothing.
 use Prim.Native.Nat.{ℕ, _-_, _<_, _^_}
-use mathlib.Core.Path.{_≡_, refl, sym, ap, _∙_}
-use mathlib.Core.Bool.{Bool, true, false, cond, _&&_}
+use mathlib.Core.Path.{_≡_, refl, _∙_}
+use mathlib.Core.Bool.{Bool, true, false, cond}
 use mathlib.Core.List.{List, [], _∷_, _++_, append-assoc}
 use borrow.Author.Tests.{lt-ltb}
 use Rattle.wording.specs.Letters.{space, lineFeed}
 use Rattle.wording.specs.Words.{isPlain, every, Plain}
 use Rattle.wording.specs.Decimal.{decimal}
-use Rattle.wording.specs.Numbers.{isDigit, numberOf, narrowed}
+use Rattle.wording.specs.Numbers.{isDigit, numberOf}
 use Rattle.wording.specs.declared.Operand.the-variants.{Of}
 use Rattle.wording.proofs.Plain.{both, decimal-plain}
 use Rattle.wording.proofs.Decimals.{decimal-some}
 use Rattle.wording.proofs.ReadBack.{decimal-reads}
 use Rattle.logtext.specs.declared.Kind.the-variants.{Digit, Other}
 use Rattle.logtext.specs.declared.Scan.{Scan}
-use Rattle.logtext.specs.Scans.{kindOf, shown, between, nextLine, onward, stepped}
-use Rattle.logtext.specs.Texts.{withSeen, isNoError, numbersOf, scanOver, isWell}
+use Rattle.logtext.specs.Scans.{kindOf, between, nextLine, onward, stepped}
+use Rattle.logtext.specs.Texts.{scanOver}
 use Rattle.logtext.specs.Theorems.{Reads, RecordReads}
 use Rattle.logtext.proofs.WordBytes.{plain-kind}
 use Rattle.logtext.proofs.Turns.{in-turns, reads-then}
-use Rattle.logtext.proofs.WordReads.{Ready, in-number, at-start, word-reads}
+use Rattle.logtext.proofs.WordReads.{in-number, at-start, word-reads}
 
 -- a scan on a line, in a word or before it
 record OnLine (line : ℕ) (scan : Scan) : Type 0 where

@@ -4,11 +4,9 @@ use Prim.Native.Nat.{ℕ, _-_}
 use mathlib.Core.Path.{_≡_, refl}
 use mathlib.Core.Bool.{Bool, true, false, cond, not, _&&_, false≢true}
 use lib.Dec.{eqb}
-use borrow.Author.Tests.{not-true}
 use Rattle.wording.specs.Letters.{lineFeed}
 use Rattle.wording.specs.Words.{isBlank, isPlain}
 use Rattle.wording.specs.Numbers.{isDigit, narrowed}
-use Rattle.wording.proofs.Plain.{both}
 use Rattle.logtext.specs.declared.Kind.{Kind}
 use Rattle.logtext.specs.declared.Kind.the-variants.{Digit, Blank, LineEnd, Hash, Other}
 use Rattle.logtext.specs.Scans.{kindOf, shown, shownIn}

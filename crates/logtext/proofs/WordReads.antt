@@ -1,23 +1,21 @@
 -- A word, up to a byte that no word has, shows the number that it is.
 -- Assumes nothing.
-use Prim.Native.Nat.{ℕ, _+_, _-_, _*_, _<_}
-use mathlib.Core.Path.{_≡_, refl, sym, ap, _∙_}
-use mathlib.Core.Bool.{Bool, true, false, cond, _&&_, and-true}
+use Prim.Native.Nat.{ℕ, _+_, _-_, _*_}
+use mathlib.Core.Path.{_≡_, refl, _∙_}
+use mathlib.Core.Bool.{Bool, true, false, cond, and-true}
 use mathlib.Core.List.{List, [], _∷_, _++_}
 use native.Mathlib.Omega.{arith}
-use lib.ListN.{length}
 use Rattle.wording.specs.Words.{isPlain, every, Plain}
 use Rattle.wording.specs.Numbers.{onlyIf, isDigit, numberFrom, numberOf}
 use Rattle.wording.specs.declared.Operand.{Operand}
 use Rattle.wording.proofs.Plain.{both}
-use Rattle.wording.proofs.Digits.{number-capped, number-some}
-use Rattle.logtext.specs.declared.Kind.{Kind}
+use Rattle.wording.proofs.Digits.{number-capped}
 use Rattle.logtext.specs.declared.Kind.the-variants.{Digit, Other}
 use Rattle.logtext.specs.declared.Scan.{Scan}
 use Rattle.logtext.specs.declared.Seen.{Seen}
 use Rattle.logtext.specs.declared.Seen.the-variants.{Nothing, NotANumber}
 use Rattle.logtext.specs.Scans.{kindOf, shown, shownBetween, shownIn, seenAt, longer, between, inNumber, onward, stepped}
-use Rattle.logtext.specs.Texts.{withSeen, isNoError, numbersOf, isWell}
+use Rattle.logtext.specs.Texts.{isNoError, numbersOf, isWell}
 use Rattle.logtext.specs.Theorems.{Shows, WordReads}
 use Rattle.logtext.proofs.WordBytes.{plain-kind, ends-number}
 

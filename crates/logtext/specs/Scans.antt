@@ -81,19 +81,15 @@ onward line n LineEnd = between (nextLine line)
 onward line n Hash = inComment line
 onward line n Other = between line
 
--- "`#` starts a comment, to the end of the line"
-abbrev pub passed : ℕ → Kind → Scan
-passed line (Digit d) = inComment line
-passed line Blank = inComment line
-passed line LineEnd = between (nextLine line)
-passed line Hash = inComment line
-passed line Other = inComment line
+-- "`#` starts a comment, to the end of the line": where a byte of a comment leads
+abbrev pub passed : ℕ → ℕ → Scan
+passed line b = cond (eqb b lineFeed) (between (nextLine line)) (inComment line)
 
--- where a byte of a kind leads from a place
-abbrev pub steppedBy : Place → ℕ → ℕ → Kind → Scan
-steppedBy Between line n kind = onward line 0 kind
-steppedBy Number line n kind = onward line n kind
-steppedBy Comment line n kind = passed line kind
+-- where a byte leads from a place
+abbrev pub steppedBy : Place → ℕ → ℕ → ℕ → Scan
+steppedBy Between line n b = onward line 0 (kindOf b)
+steppedBy Number line n b = onward line n (kindOf b)
+steppedBy Comment line n b = passed line b
 
 unfoldable pub stepped : Scan → ℕ → Scan
-stepped scan b = steppedBy (scan .place) (scan .line) (scan .value) (kindOf b)
+stepped scan b = steppedBy (scan .place) (scan .line) (scan .value) b

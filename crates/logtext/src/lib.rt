@@ -68,7 +68,7 @@ pub fn step(scan: Scan, b: u8) -> Scan
     match place {
         Place::Between => go_on(scan.line, 0, told(b)),
         Place::Number => go_on(scan.line, scan.value, told(b)),
-        Place::Comment => pass(scan.line, told(b)),
+        Place::Comment => pass(scan.line, b),
     }
 }
 
@@ -160,31 +160,16 @@ fn go_on(line: u64, value: u64, kind: Kind) -> Scan
 }
 
 // The scan after a byte of a comment.
-fn pass(line: u64, kind: Kind) -> Scan
-    ensures { λ r. ⌜ r ≡ passed line kind ⌝ }
+fn pass(line: u64, b: u8) -> Scan
+    ensures { λ r. ⌜ r ≡ passed line b ⌝ }
 {
-    match kind {
-        Kind::LineEnd => next_line(line),
-        Kind::Digit(digit) => Scan {
-            line,
-            place: Place::Comment,
-            value: 0,
-        },
-        Kind::Hash => Scan {
-            line,
-            place: Place::Comment,
-            value: 0,
-        },
-        Kind::Blank => Scan {
-            line,
-            place: Place::Comment,
-            value: 0,
-        },
-        Kind::Other => Scan {
-            line,
-            place: Place::Comment,
-            value: 0,
-        },
+    if b == b'\n' {
+        return next_line(line);
+    }
+    Scan {
+        line,
+        place: Place::Comment,
+        value: 0,
     }
 }
 

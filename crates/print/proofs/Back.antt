@@ -20,32 +20,32 @@ use Rattle.rules.specs.declared.Rule.the-variants.{RealTime, Fair}
 use Rattle.rules.specs.declared.Times.{Times}
 use Rattle.rules.specs.declared.Times.the-variants.{Untimed, Timed}
 use Rattle.print.specs.declared.Wrong.{Wrong}
-use Rattle.print.specs.declared.Wrong.the-variants.{NotACall, NotAClass, TooLarge, StartFirst, StartedAlready, TreeFirst, NextClass}
+use Rattle.print.specs.declared.Wrong.the-variants.{NotACall, NotAClass, NotANumber, TooLarge, StartFirst, StartedAlready, TreeFirst, NextClass}
 use Rattle.print.specs.declared.Answer.{Answer}
 use Rattle.print.specs.declared.Answer.the-variants.{Started, TreeRefused, Accepted, Refused, Leaves, NoneWaits, TreeHead, ClassOf, Faulty}
 use Rattle.print.specs.Spelled.{startedWord, refusedWord, classWord, acceptedWord, numberWord, packetWord, fairWord, noneWord, treeWord, straightWord, frontLoadedWord, lineWord, notWord, callWord, comesWord}
 use Rattle.print.specs.Lines.{wordOfRule, wordsOfTimes, wordsOfCurve, wordsOfWrong, headOf, wordsOf}
 
 -- the number that a word is, and the one that stands before a colon
-read : List ℕ → ℕ
+pub read : List ℕ → ℕ
 read word = value 0 word
 
-readColon : List ℕ → ℕ
+pub readColon : List ℕ → ℕ
 readColon word = value 0 word / 10 - 1
 
-read-back : (n : ℕ) → read (decimal n) ≡ n
+pub read-back : (n : ℕ) → read (decimal n) ≡ n
 unfolding read
 read-back = decimal-value
 
-read-colon : (n : ℕ) → readColon (decimal n ++ (colon ∷ [])) ≡ n
+pub read-colon : (n : ℕ) → readColon (decimal n ++ (colon ∷ [])) ≡ n
 unfolding readColon value
 read-colon n = rw (value-on n (colon ∷ [])) (omega arith)
 
 -- the word of a place, the number there, and whether a word has the first two letters of another
-abbrev word : List (List ℕ) → ℕ → List ℕ
+abbrev pub word : List (List ℕ) → ℕ → List ℕ
 word words i = getD words i []
 
-abbrev number : List (List ℕ) → ℕ → ℕ
+abbrev pub number : List (List ℕ) → ℕ → ℕ
 number words i = read (getD words i [])
 
 abbrev letters : List ℕ → ℕ
@@ -87,7 +87,7 @@ curve-back (Delayed bend rate) = simp read-back
 
 wrongOf : List (List ℕ) → Wrong
 wrongOf ws =
-    cond (like (word ws 0) notWord) (cond (like (word ws 2) callWord) NotACall NotAClass)
+    cond (like (word ws 0) notWord) (cond (like (word ws 2) callWord) NotACall (cond (like (word ws 2) classWord) NotAClass NotANumber))
     (cond (like (word ws 0) numberWord) TooLarge
     (cond (like (word ws 0) treeWord) TreeFirst
     (cond (like (word ws 0) classWord) (NextClass (number ws 1))
@@ -97,6 +97,7 @@ wrong-back : (w : Wrong) → wrongOf (wordsOfWrong w) ≡ w
 unfolding wrongOf
 wrong-back NotACall = refl
 wrong-back NotAClass = refl
+wrong-back NotANumber = refl
 wrong-back TooLarge = refl
 wrong-back StartFirst = refl
 wrong-back StartedAlready = refl

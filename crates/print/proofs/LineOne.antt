@@ -2,26 +2,25 @@
 -- Assumes nothing.
 use Prim.Native.Nat.{ℕ}
 use mathlib.Core.Path.{_≡_, refl, sym, ap, ap₂, _∙_}
-use mathlib.Core.Bool.{true, _&&_}
-use mathlib.Core.List.{List, [], _∷_, _++_}
+use mathlib.Core.Bool.{true}
+use mathlib.Core.List.{[], _∷_, _++_}
 use Rattle.wording.specs.Letters.{colon}
 use Rattle.wording.specs.Decimal.{decimal}
-use Rattle.wording.proofs.Plain.{isPlain, every, both, every-append, decimal-plain}
+use Rattle.wording.proofs.Plain.{isPlain, every, every-append, decimal-plain}
 use Rattle.curve.specs.declared.Curve.{Curve}
 use Rattle.curve.specs.declared.Curve.the-variants.{None, Straight, FrontLoaded, Delayed}
-use Rattle.tree.specs.Numbers.{numberOf}
 use Rattle.tree.proofs.Numbers.{refusal-by-number}
 use Rattle.rules.specs.declared.Rule.{Rule}
 use Rattle.rules.specs.declared.Rule.the-variants.{RealTime, Fair}
 use Rattle.rules.specs.declared.Times.{Times}
 use Rattle.rules.specs.declared.Times.the-variants.{Untimed, Timed}
 use Rattle.print.specs.declared.Wrong.{Wrong}
-use Rattle.print.specs.declared.Wrong.the-variants.{NotACall, NotAClass, TooLarge, StartFirst, StartedAlready, TreeFirst, NextClass}
+use Rattle.print.specs.declared.Wrong.the-variants.{NotACall, NotAClass, NotANumber, TooLarge, StartFirst, StartedAlready, TreeFirst, NextClass}
 use Rattle.print.specs.declared.Answer.{Answer}
 use Rattle.print.specs.declared.Answer.the-variants.{Started, TreeRefused, Accepted, Refused, Leaves, NoneWaits, TreeHead, ClassOf, Faulty}
 use Rattle.print.specs.Lines.{wordOfRule, wordsOfTimes, wordsOfCurve, wordsOfWrong, headOf, wordsOf, lineOf}
 use Rattle.print.specs.Theorems.{LineOne}
-use Rattle.print.proofs.Split.{plains, word-one, further-one}
+use Rattle.print.proofs.Split.{plains, line-words}
 use Rattle.print.proofs.Back.{whyOf, whyNumber, why-back, answerOf, answer-back}
 
 -- every word of a line is plain
@@ -42,16 +41,17 @@ plain-curve (Delayed bend rate) = simp decimal-plain
 plain-wrong : (w : Wrong) → plains (wordsOfWrong w) ≡ true
 plain-wrong NotACall = refl
 plain-wrong NotAClass = refl
+plain-wrong NotANumber = refl
 plain-wrong TooLarge = refl
 plain-wrong StartFirst = refl
 plain-wrong StartedAlready = refl
 plain-wrong TreeFirst = refl
 plain-wrong (NextClass n) = simp decimal-plain
 
-plain-colon : (n : ℕ) → every isPlain (decimal n ++ (colon ∷ [])) ≡ true
+pub plain-colon : (n : ℕ) → every isPlain (decimal n ++ (colon ∷ [])) ≡ true
 plain-colon n = every-append isPlain (decimal n) (colon ∷ []) (decimal-plain n) refl
 
-plain-line : (a : Answer) → plains (headOf a ∷ wordsOf a) ≡ true
+pub plain-line : (a : Answer) → plains (headOf a ∷ wordsOf a) ≡ true
 plain-line (Started count) = simp decimal-plain
 plain-line (TreeRefused why class) = simp decimal-plain
 plain-line (Accepted n) = simp decimal-plain
@@ -65,11 +65,7 @@ plain-line (Faulty n wrong) = simp (plain-colon, plain-wrong)
 -- so two answers with the same line have the same words
 words-one : (a b : Answer) → lineOf a ≡ lineOf b → headOf a ∷ wordsOf a ≡ headOf b ∷ wordsOf b
 unfolding lineOf
-words-one a b e =
-    let first = both (every isPlain (headOf a)) (plains (wordsOf a)) (plain-line a) in
-    let second = both (every isPlain (headOf b)) (plains (wordsOf b)) (plain-line b) in
-    let (heads, rest) = word-one (headOf a) (headOf b) (wordsOf a) (wordsOf b) (first .0) (second .0) e in
-    ap₂ _∷_ heads (further-one (wordsOf a) (wordsOf b) (first .1) (second .1) rest)
+words-one a b = line-words (headOf a) (headOf b) (wordsOf a) (wordsOf b) (plain-line a) (plain-line b)
 
 -- and are the answer that is found from those
 pub line-one : LineOne

@@ -1,10 +1,11 @@
 -- A line is made of its words in one way: each ends at the first space or line feed.
 -- Assumes nothing.
 use Prim.Native.Nat.{ℕ}
-use mathlib.Core.Path.{_≡_, refl, sym, subst, ap₂}
+use mathlib.Core.Path.{_≡_, refl, sym, subst, ap, ap₂}
 use mathlib.Core.Bool.{Bool, true, false, _&&_, false≢true}
 use mathlib.Core.List.{List, [], _∷_, _++_}
 use native.Mathlib.Omega.{arith}
+use Rattle.wording.specs.Letters.{space}
 use Rattle.wording.proofs.Plain.{isPlain, every, both}
 use Rattle.print.specs.Lines.{further}
 
@@ -24,7 +25,7 @@ ends b s (word ∷ others) plain e =
     false≢true (subst (λ (k : ℕ). isPlain k ≡ true) same plain)
 
 -- so two words that are followed so are the same where the texts are
-pub word-one : (w v : List ℕ) (ws vs : List (List ℕ)) → every isPlain w ≡ true → every isPlain v ≡ true → w ++ further ws ≡ v ++ further vs → (w ≡ v) × (further ws ≡ further vs)
+word-one : (w v : List ℕ) (ws vs : List (List ℕ)) → every isPlain w ≡ true → every isPlain v ≡ true → w ++ further ws ≡ v ++ further vs → (w ≡ v) × (further ws ≡ further vs)
 word-one [] [] ws vs p q e = (refl, e)
 word-one [] (b ∷ v) ws vs p q e = absurd (ends b (v ++ further vs) ws (both (isPlain b) (every isPlain v) q .0) e)
 word-one (b ∷ w) [] ws vs p q e = absurd (ends b (w ++ further ws) vs (both (isPlain b) (every isPlain w) p .0) (sym e))
@@ -34,7 +35,7 @@ word-one (b ∷ w) (d ∷ v) ws vs p q e =
     (cc, rest)
 
 -- and so are all the words
-pub further-one : (ws vs : List (List ℕ)) → plains ws ≡ true → plains vs ≡ true → further ws ≡ further vs → ws ≡ vs
+further-one : (ws vs : List (List ℕ)) → plains ws ≡ true → plains vs ≡ true → further ws ≡ further vs → ws ≡ vs
 unfolding further
 further-one [] [] p q e = refl
 further-one [] (v ∷ vs) p q e = let same : _≡_ {A = ℕ} 10 32 = cc in absurd (omega arith)
@@ -45,3 +46,8 @@ further-one (w ∷ ws) (v ∷ vs) p q e =
     let second = both (every isPlain v) (plains vs) q in
     let (same, rest) = word-one w v ws vs (first .0) (second .0) tails in
     ap₂ _∷_ same (further-one ws vs (first .1) (second .1) rest)
+
+-- so two lines with the same text have the same words, the first among them
+pub line-words : (w v : List ℕ) (ws vs : List (List ℕ)) → plains (w ∷ ws) ≡ true → plains (v ∷ vs) ≡ true → w ++ further ws ≡ v ++ further vs → w ∷ ws ≡ v ∷ vs
+unfolding further
+line-words w v ws vs p q e = further-one (w ∷ ws) (v ∷ vs) p q (ap (λ (s : List ℕ). space ∷ s) e)

@@ -21,7 +21,7 @@ use Rattle.rules.specs.declared.Arrival.the-variants as arrival
 use Rattle.rules.specs.declared.Departure.{Departure}
 use Rattle.rules.specs.declared.Departure.the-variants as departure
 use Rattle.print.specs.declared.Wrong.{Wrong}
-use Rattle.print.specs.declared.Wrong.the-variants.{NotACall, NotAClass, TooLarge, StartFirst, StartedAlready, TreeFirst, NextClass}
+use Rattle.print.specs.declared.Wrong.the-variants.{NotACall, NotAClass, NotANumber, TooLarge, StartFirst, StartedAlready, TreeFirst, NextClass}
 use Rattle.print.specs.declared.Answer.{Answer}
 use Rattle.print.specs.declared.Answer.the-variants.{Started, TreeRefused, Accepted, Refused, Leaves, NoneWaits, TreeHead, ClassOf, Faulty}
 use Rattle.print.specs.Spelled.{startedWord, refusedWord, classWord, acceptedWord, numberWord, packetWord, lengthWord, ruleWord, realTimeWord, fairWord, eligibleWord, deadlineWord, noneWord, waitsWord, treeWord, parentWord, shareWord, straightWord, frontLoadedWord, delayedWord, lineWord, notWord, articleWord, callWord, pastWord, thirtyTwoWord, bitsWord, startWord, comesWord, firstWord, alreadyWord, nextWord}
@@ -47,6 +47,7 @@ wordsOfCurve (Delayed bend rate) = delayedWord ∷ decimal bend ∷ decimal rate
 abbrev pub wordsOfWrong : Wrong → List (List ℕ)
 wordsOfWrong NotACall = notWord ∷ articleWord ∷ callWord ∷ []
 wordsOfWrong NotAClass = notWord ∷ articleWord ∷ classWord ∷ []
+wordsOfWrong NotANumber = notWord ∷ articleWord ∷ numberWord ∷ []
 wordsOfWrong TooLarge = numberWord ∷ pastWord ∷ thirtyTwoWord ∷ bitsWord ∷ []
 wordsOfWrong StartFirst = startWord ∷ comesWord ∷ firstWord ∷ []
 wordsOfWrong StartedAlready = startedWord ∷ alreadyWord ∷ []

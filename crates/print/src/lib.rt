@@ -20,10 +20,11 @@ pub const NUMBER: usize = 21;
 
 pub const TEXT: usize = 12480;
 
-// What is wrong with a line of a calls file or of a tree's text.
+// What is wrong with a line of a calls file, of a tree's text or of a log.
 pub enum Wrong {
     NotACall,
     NotAClass,
+    NotANumber,
     TooLarge,
     StartFirst,
     StartedAlready,

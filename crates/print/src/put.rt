@@ -63,19 +63,27 @@ fn digits(out: &mut [u8], at: usize, count: usize, n: u64)
     }
 }
 
+// A number.
+pub fn spelled(out: &mut [u8], at: usize, n: u64) -> usize
+    requires { ⌜ at + 20 ≤ length (now out) ⌝ }
+    ensures { λ r. ⌜ Printed (now (out .entry)) at (decimal n) (now (out .exit)) r × (r ≤ at + 20) ⌝ }
+{
+    let count = places(n);
+    digits(out, at, count, n);
+    at + count
+}
+
 // A space and a number.
-pub(crate) fn number(out: &mut [u8], at: usize, n: u64) -> usize
+pub fn number(out: &mut [u8], at: usize, n: u64) -> usize
     requires { ⌜ at + numberRoom ≤ length (now out) ⌝ }
     ensures { λ r. ⌜ Printed (now (out .entry)) at (space ∷ decimal n) (now (out .exit)) r × (r ≤ at + numberRoom) ⌝ }
 {
-    let count = places(n);
-    out[at] = b' ';
-    digits(out, at + 1, count, n);
-    at + 1 + count
+    let end = text(out, at, b" ");
+    spelled(out, end, n)
 }
 
 // A word, a space and a number.
-fn named(out: &mut [u8], at: usize, word: &[u8], n: u64) -> usize
+pub fn named(out: &mut [u8], at: usize, word: &[u8], n: u64) -> usize
     requires { ⌜ at + length (now word) + 21 ≤ length (now out) ⌝ }
     ensures { λ r. ⌜ Printed (now (out .entry)) at (now (word .entry) ++ (space ∷ decimal n)) (now (out .exit)) r × (r ≤ at + length (now (word .entry)) + 21) ⌝ }
 {
@@ -84,7 +92,7 @@ fn named(out: &mut [u8], at: usize, word: &[u8], n: u64) -> usize
 }
 
 // The same as the last of a line.
-fn last(out: &mut [u8], at: usize, word: &[u8], n: u64) -> usize
+pub fn last(out: &mut [u8], at: usize, word: &[u8], n: u64) -> usize
     requires { ⌜ at + length (now word) + 22 ≤ length (now out) ⌝ }
     ensures { λ r. ⌜ Printed (now (out .entry)) at (now (word .entry) ++ further (decimal n ∷ [])) (now (out .exit)) r × (r ≤ at + length (now (word .entry)) + 22) ⌝ }
 {
@@ -152,6 +160,7 @@ fn fault(out: &mut [u8], at: usize, wrong: Wrong) -> usize
     match wrong {
         Wrong::NotACall => text(out, at, b" not a call\n"),
         Wrong::NotAClass => text(out, at, b" not a class\n"),
+        Wrong::NotANumber => text(out, at, b" not a number\n"),
         Wrong::TooLarge => text(out, at, b" number past 32 bits\n"),
         Wrong::StartFirst => text(out, at, b" start comes first\n"),
         Wrong::StartedAlready => text(out, at, b" started already\n"),
@@ -209,7 +218,7 @@ fn faulty(out: &mut [u8], at: usize, number: u64, wrong: Wrong) -> usize
 }
 
 // The line of an answer.
-pub(crate) fn line(out: &mut [u8], at: usize, answer: Answer) -> usize
+pub fn line(out: &mut [u8], at: usize, answer: Answer) -> usize
     requires { ⌜ at + lineRoom ≤ length (now out) ⌝ }
     ensures { λ r. ⌜ Printed (now (out .entry)) at (lineOf answer) (now (out .exit)) r ⌝ }
 {

@@ -15,11 +15,18 @@ use Rattle.calls.specs.declared.Line.{Line}
 use Rattle.calls.specs.declared.Line.the-variants.{Start, Arrive, Depart, Nothing, TooLarge, NotACall}
 use Rattle.calls.specs.Lines.{said}
 use Rattle.print.specs.Lines.{startAnswer, arrivalAnswer, departureAnswer}
+use Rattle.log.specs.declared.Entry.{Entry}
+use Rattle.log.specs.declared.Entry.the-variants as entry
+use Rattle.log.specs.Records.{arrivalEntry, departureEntry}
+use Rattle.print.specs.declared.Answer.{Answer}
 use Rattle.print.proofs.One.{printed-one}
+use Rattle.printlog.proofs.One.{prints-entry-one}
+use Rattle.replay.specs.declared.lines.Form.{Form}
+use Rattle.replay.specs.declared.lines.Form.the-variants.{Answers, Log}
 use Rattle.replay.specs.declared.lines.Reply.{Reply}
 use Rattle.replay.specs.declared.lines.Reply.the-variants.{Silent, Says, Stops}
 use Rattle.replay.specs.declared.lines.Progress.{Progress}
-use Rattle.replay.specs.Replies.{NoCall, StartReplied, ArriveReplied, DepartReplied, FirstReplied, LaterReplied, Replied, afterReply, ReplyPrinted, Told, Replayed}
+use Rattle.replay.specs.Replies.{NoCall, StartReplied, ArriveReplied, DepartReplied, FirstReplied, LaterReplied, Replied, afterReply, CallPrinted, ReplyPrinted, Told, Replayed}
 
 -- two replies, each with what the arrays then hold
 abbrev Same : Reply → List ℕ → List ℕ → Reply → List ℕ → List ℕ → Type 0
@@ -33,18 +40,18 @@ module _ (tree : Tree) {m₁ l₁ m₂ l₂ : List ℕ} {r s : Reply} where
   start-replied-one : (stamp : ℕ) → StartReplied tree stamp r m₁ l₁ → StartReplied tree stamp s m₂ l₂ → Same r m₁ l₁ s m₂ l₂
   start-replied-one stamp p q =
       let one = start-one tree stamp (p .answer) (q .answer) m₁ m₂ l₁ l₂ (p .right) (q .right) in
-      (p .says ∙ ap (λ (v : Verdict). Says (startAnswer v (tree .count))) (one .0) ∙ sym (q .says), one .1, one .2)
+      (p .says ∙ ap (λ (v : Verdict). Says (startAnswer v (tree .count)) entry.Nothing) (one .0) ∙ sym (q .says), one .1, one .2)
 
 module _ (m l : List ℕ) (reached : Reached m l) {m₁ l₁ m₂ l₂ : List ℕ} {r s : Reply} where
   arrive-replied-one : (stamp class bytes : ℕ) → ArriveReplied m l stamp class bytes r m₁ l₁ → ArriveReplied m l stamp class bytes s m₂ l₂ → Same r m₁ l₁ s m₂ l₂
   arrive-replied-one stamp class bytes p q =
       let one = arrive-one m l reached stamp class bytes (p .answer) (q .answer) m₁ m₂ l₁ l₂ (p .right) (q .right) in
-      (p .says ∙ ap (λ (v : Arrival). Says (arrivalAnswer v)) (one .0) ∙ sym (q .says), one .1, one .2)
+      (p .says ∙ ap (λ (v : Arrival). Says (arrivalAnswer v) (arrivalEntry stamp class bytes v)) (one .0) ∙ sym (q .says), one .1, one .2)
 
   depart-replied-one : (stamp : ℕ) → DepartReplied m l stamp r m₁ l₁ → DepartReplied m l stamp s m₂ l₂ → Same r m₁ l₁ s m₂ l₂
   depart-replied-one stamp p q =
       let one = depart-one m l reached stamp (p .answer) (q .answer) m₁ m₂ l₁ l₂ (p .right) (q .right) in
-      (p .says ∙ ap (λ (v : Departure). Says (departureAnswer v)) (one .0) ∙ sym (q .says), one .1, one .2)
+      (p .says ∙ ap (λ (v : Departure). Says (departureAnswer v) (departureEntry stamp v)) (one .0) ∙ sym (q .says), one .1, one .2)
 
   pub first-one : (tree : Tree) (line : Line) → FirstReplied tree m l line r m₁ l₁ → FirstReplied tree m l line s m₂ l₂ → Same r m₁ l₁ s m₂ l₂
   first-one tree (Start stamp) p q = start-replied-one tree stamp p q
@@ -67,9 +74,14 @@ module _ (m l : List ℕ) (reached : Reached m l) {m₁ l₁ m₂ l₂ : List �
   replied-one tree false line p q = first-one tree line p q
 
 module _ (run : Progress) (old new new₂ : List ℕ) where
+  call-printed-one : (form : Form) (answer : Answer) (entry : Entry) (n k : ℕ)
+      → CallPrinted form answer entry old new n → CallPrinted form answer entry old new₂ k → (new ≡ new₂) × (n ≡ k)
+  call-printed-one Answers answer entry n k p q = printed-one p q
+  call-printed-one Log answer entry n k p q = prints-entry-one entry old new new₂ n k p q
+
   reply-printed-one : (reply : Reply) (n k : ℕ) → ReplyPrinted reply run old new n → ReplyPrinted reply run old new₂ k → (new ≡ new₂) × (n ≡ k)
   reply-printed-one Silent n k p q = (p .0 ∙ sym (q .0), p .1 ∙ sym (q .1))
-  reply-printed-one (Says answer) n k p q = printed-one p q
+  reply-printed-one (Says answer entry) n k p q = call-printed-one (run .form) answer entry n k p q
   reply-printed-one (Stops why) n k p q = printed-one p q
 
   pub told-one : (reply : Reply) (next next₂ : Progress) → Told reply run old new next → Told reply run old new₂ next₂ → (new ≡ new₂) × (next ≡ next₂)

@@ -7,6 +7,7 @@ use mathlib.Core.Bool.{true, false}
 use mathlib.Core.List.{List}
 use lib.ListN.{length, set, length-set}
 use Rattle.wording.specs.Letters.{lineFeed}
+use Rattle.log.specs.declared.Entry.{Entry}
 use Rattle.print.specs.declared.Answer.{Answer}
 use Rattle.print.specs.declared.Answer.the-variants.{Faulty}
 use Rattle.print.specs.declared.Wrong.{Wrong}
@@ -15,7 +16,7 @@ use Rattle.print.proofs.Stores.{ends-within}
 use Rattle.replay.specs.declared.lines.Reply.{Reply}
 use Rattle.replay.specs.declared.lines.Reply.the-variants.{Silent, Says, Stops}
 use Rattle.replay.specs.declared.lines.Progress.{Progress}
-use Rattle.replay.specs.Replies.{NoCall, nextLine, Told}
+use Rattle.replay.specs.Replies.{NoCall, nextLine, CallPrinted, Told}
 use Rattle.replay.specs.Text.{Finished}
 
 -- a known reply, and both arrays as they were
@@ -25,16 +26,16 @@ unmoved p = record { says = p; words = refl; lengths = refl }
 -- how far the replay has come, with each sort of reply printed
 module _ (run : Progress) (old : List ℕ) where
   pub told-silent : {n : ℕ} → n ≡ nextLine run
-      → Told Silent run old old (record { lines = n; printed = 0; «is_started» = run .«is_started»; «is_going» = run .«is_going» })
+      → Told Silent run old old (record { lines = n; printed = 0; «is_started» = run .«is_started»; «is_going» = run .«is_going»; form = run .form })
   told-silent p = record { prints = (refl, refl); goes = rw p refl }
 
   module _ (new : List ℕ) {n k : ℕ} where
-    pub told-says : {answer : Answer} → n ≡ nextLine run → PrintsLine answer old new k
-        → Told (Says answer) run old new (record { lines = n; printed = k; «is_started» = true; «is_going» = run .«is_going» })
+    pub told-says : {answer : Answer} {entry : Entry} → n ≡ nextLine run → CallPrinted (run .form) answer entry old new k
+        → Told (Says answer entry) run old new (record { lines = n; printed = k; «is_started» = true; «is_going» = run .«is_going»; form = run .form })
     told-says p q = record { prints = q; goes = rw p refl }
 
     pub told-stops : {why : Wrong} → n ≡ nextLine run → PrintsLine (Faulty n why) old new k
-        → Told (Stops why) run old new (record { lines = n; printed = k; «is_started» = run .«is_started»; «is_going» = false })
+        → Told (Stops why) run old new (record { lines = n; printed = k; «is_started» = run .«is_started»; «is_going» = false; form = run .form })
     told-stops {why} p q = record { prints = subst (λ (i : ℕ). PrintsLine (Faulty i why) old new k) p q; goes = rw p refl }
 
 -- a last line without its end, and none

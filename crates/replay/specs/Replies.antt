@@ -13,10 +13,17 @@ use Rattle.sched.specs.Promises.{StartRight, ArriveRight, DepartRight}
 use Rattle.calls.specs.declared.Line.{Line}
 use Rattle.calls.specs.declared.Line.the-variants.{Start, Arrive, Depart, Nothing, TooLarge, NotACall}
 use Rattle.calls.specs.Lines.{said}
+use Rattle.log.specs.declared.Entry.{Entry}
+use Rattle.log.specs.declared.Entry.the-variants as entry
+use Rattle.log.specs.Records.{arrivalEntry, departureEntry}
+use Rattle.print.specs.declared.Answer.{Answer}
 use Rattle.print.specs.declared.Wrong.the-variants as wrong
 use Rattle.print.specs.declared.Answer.the-variants.{Faulty}
 use Rattle.print.specs.Lines.{startAnswer, arrivalAnswer, departureAnswer}
 use Rattle.print.specs.Promises.{PrintsLine}
+use Rattle.printlog.specs.Promises.{PrintsEntry}
+use Rattle.replay.specs.declared.lines.Form.{Form}
+use Rattle.replay.specs.declared.lines.Form.the-variants.{Answers, Log}
 use Rattle.replay.specs.declared.lines.Reply.{Reply}
 use Rattle.replay.specs.declared.lines.Reply.the-variants.{Silent, Says, Stops}
 use Rattle.replay.specs.declared.lines.Progress.{Progress}
@@ -27,21 +34,21 @@ pub record NoCall (known : Reply) (m l : List ℕ) (reply : Reply) (m′ l′ : 
   pub words : m′ ≡ m
   pub lengths : l′ ≡ l
 
--- the answer of each call, by its promise
+-- the answer of each call, by its promise, and what the call leaves in the log: a start leaves nothing
 pub record StartReplied (tree : Tree) (stamp : ℕ) (reply : Reply) (m′ l′ : List ℕ) : Type 0 where
   pub answer : Verdict
   pub right : StartRight tree stamp answer m′ l′
-  pub says : reply ≡ Says (startAnswer answer (tree .count))
+  pub says : reply ≡ Says (startAnswer answer (tree .count)) entry.Nothing
 
 pub record ArriveReplied (m l : List ℕ) (stamp class bytes : ℕ) (reply : Reply) (m′ l′ : List ℕ) : Type 0 where
   pub answer : Arrival
   pub right : EveryHistory m l (λ h. ArriveRight h stamp class bytes answer m′ l′)
-  pub says : reply ≡ Says (arrivalAnswer answer)
+  pub says : reply ≡ Says (arrivalAnswer answer) (arrivalEntry stamp class bytes answer)
 
 pub record DepartReplied (m l : List ℕ) (stamp : ℕ) (reply : Reply) (m′ l′ : List ℕ) : Type 0 where
   pub answer : Departure
   pub right : EveryHistory m l (λ h. DepartRight h stamp answer m′ l′)
-  pub says : reply ≡ Says (departureAnswer answer)
+  pub says : reply ≡ Says (departureAnswer answer) (departureEntry stamp answer)
 
 -- "`start` is the first call"
 abbrev pub FirstReplied : Tree → (m l : List ℕ) → Line → Reply → (m′ l′ : List ℕ) → Type 0
@@ -66,8 +73,8 @@ Replied tree true m l line reply m′ l′ = LaterReplied m l line reply m′ l�
 Replied tree false m l line reply m′ l′ = FirstReplied tree m l line reply m′ l′
 
 -- before the first line
-abbrev pub beforeLines : Progress
-beforeLines = record { lines = 0; printed = 0; «is_started» = false; «is_going» = true }
+abbrev pub beforeLines : Form → Progress
+beforeLines form = record { lines = 0; printed = 0; «is_started» = false; «is_going» = true; form = form }
 
 -- the number of the next line, "counted from 1, blank lines and comments among them"
 abbrev pub nextLine : Progress → ℕ
@@ -75,14 +82,19 @@ nextLine run = (run .lines + 1) % 2 ^ 64
 
 -- how far the replay has come after a reply that is so many bytes long: a call's answer shows that it is started, and what is wrong ends it
 abbrev pub afterReply : Reply → Progress → ℕ → Progress
-afterReply Silent run n = record { lines = nextLine run; printed = n; «is_started» = run .«is_started»; «is_going» = run .«is_going» }
-afterReply (Says answer) run n = record { lines = nextLine run; printed = n; «is_started» = true; «is_going» = run .«is_going» }
-afterReply (Stops why) run n = record { lines = nextLine run; printed = n; «is_started» = run .«is_started»; «is_going» = false }
+afterReply Silent run n = record { lines = nextLine run; printed = n; «is_started» = run .«is_started»; «is_going» = run .«is_going»; form = run .form }
+afterReply (Says answer entry) run n = record { lines = nextLine run; printed = n; «is_started» = true; «is_going» = run .«is_going»; form = run .form }
+afterReply (Stops why) run n = record { lines = nextLine run; printed = n; «is_started» = run .«is_started»; «is_going» = false; form = run .form }
+
+-- the line of a call's answer; or, of `replay --log`, what the call leaves in the log
+abbrev pub CallPrinted : Form → Answer → Entry → (old new : List ℕ) → ℕ → Type 0
+CallPrinted Answers answer entry old new n = PrintsLine answer old new n
+CallPrinted Log answer entry old new n = PrintsEntry entry old new n
 
 -- "A line that says nothing prints nothing. Each call prints one line"
 abbrev pub ReplyPrinted : Reply → Progress → (old new : List ℕ) → ℕ → Type 0
 ReplyPrinted Silent run old new n = (new ≡ old) × (n ≡ 0)
-ReplyPrinted (Says answer) run old new n = PrintsLine answer old new n
+ReplyPrinted (Says answer entry) run old new n = CallPrinted (run .form) answer entry old new n
 ReplyPrinted (Stops why) run old new n = PrintsLine (Faulty (nextLine run) why) old new n
 
 pub record Told (reply : Reply) (run : Progress) (old new : List ℕ) (next : Progress) : Type 0 where

@@ -3,8 +3,9 @@ ghost use mathlib.Core.Path.{_≡_};
 ghost use Prim.Native.Nat.{_≤_};
 ghost use Rattle.state.specs.State.{Reached};
 ghost use Rattle.print.specs.Promises.{Within, lineRoom};
-ghost use Rattle.replay.specs.Replies.{StartReplied, ArriveReplied, DepartReplied, FirstReplied, LaterReplied, Replied, Told, Replayed, beforeLines};
+ghost use Rattle.replay.specs.Replies.{StartReplied, ArriveReplied, DepartReplied, FirstReplied, LaterReplied, Replied, Told, Replayed, CallPrinted, beforeLines};
 use calls::Line;
+use log::Entry;
 use print::Answer;
 use print::LINE;
 use print::Wrong;
@@ -13,11 +14,18 @@ use state::table::Lengths;
 use state::table::Words;
 use tree::Tree;
 
-// What a line is replied with: nothing, the answer of its call, or what is wrong with it, which ends the replay.
+// What a line is replied with: nothing, the answer of its call and what the call leaves in the log, or what is wrong with the
+// line, which ends the replay.
 pub enum Reply {
     Silent,
-    Says { answer: Answer },
+    Says { answer: Answer, entry: Entry },
     Stops { wrong: Wrong },
+}
+
+// What is printed of a call: its answer, or what it leaves in the log.
+pub enum Form {
+    Answers,
+    Log,
 }
 
 // How far a replay has come.
@@ -28,17 +36,19 @@ pub struct Progress {
     pub printed: usize,
     pub is_started: bool,
     pub is_going: bool,
+    pub form: Form,
 }
 
 // Before the first line.
-pub fn before() -> Progress
-    ensures { λ r. ⌜ r ≡ beforeLines ⌝ }
+pub fn before(form: Form) -> Progress
+    ensures { λ r. ⌜ r ≡ beforeLines form ⌝ }
 {
     Progress {
         lines: 0,
         printed: 0,
         is_started: false,
         is_going: true,
+        form,
     }
 }
 
@@ -123,7 +133,7 @@ fn start(tree: Tree, words: &mut Words, lengths: &mut Lengths, stamp: u32) -> Re
     ensures reached { λ r. ⌜ Reached (now (words .exit)) (now (lengths .exit)) ⌝ }
 {
     let verdict = sched::start(tree, stamp, words, lengths);
-    says(print::start(verdict, tree.count))
+    says(print::start(verdict, tree.count), Entry::Nothing)
 }
 
 fn arrive(words: &mut Words, lengths: &mut Lengths, stamp: u32, class: u32, bytes: u32) -> Reply
@@ -132,7 +142,8 @@ fn arrive(words: &mut Words, lengths: &mut Lengths, stamp: u32, class: u32, byte
     ensures reached { λ r. ⌜ Reached (now (words .exit)) (now (lengths .exit)) ⌝ }
 {
     let arrival = sched::arrive(words, lengths, stamp, class, bytes);
-    says(print::arrival(arrival))
+    let entry = log::arrival(stamp, class, bytes, arrival);
+    says(print::arrival(arrival), entry)
 }
 
 fn depart(words: &mut Words, lengths: &mut Lengths, stamp: u32) -> Reply
@@ -141,16 +152,17 @@ fn depart(words: &mut Words, lengths: &mut Lengths, stamp: u32) -> Reply
     ensures reached { λ r. ⌜ Reached (now (words .exit)) (now (lengths .exit)) ⌝ }
 {
     let departure = sched::depart(words, lengths, stamp);
+    let entry = log::departure(stamp, departure);
     let Departure::Leaves { packet } = departure else {
-        return says(print::departure(departure));
+        return says(print::departure(departure), entry);
     };
-    says(Answer::Leaves { packet })
+    says(Answer::Leaves { packet }, entry)
 }
 
-fn says(answer: Answer) -> Reply
-    ensures { λ r. ⌜ r ≡ Reply.Says answer ⌝ }
+fn says(answer: Answer, entry: Entry) -> Reply
+    ensures { λ r. ⌜ r ≡ Reply.Says answer entry ⌝ }
 {
-    Reply::Says { answer }
+    Reply::Says { answer, entry }
 }
 
 fn stops(wrong: Wrong) -> Reply
@@ -165,20 +177,23 @@ fn told(reply: Reply, out: &mut [u8; LINE], run: Progress) -> Progress
     ensures within { λ r. ⌜ Within (r .printed) (now (out .exit)) × (r .printed ≤ lineRoom) ⌝ }
 {
     let lines = std::num::wrapping_add_u64(run.lines, 1);
+    let form = run.form;
     match reply {
         Reply::Silent => Progress {
             lines,
             printed: 0,
             is_started: run.is_started,
             is_going: run.is_going,
+            form,
         },
-        Reply::Says { answer } => {
-            let printed = print::line(answer, out);
+        Reply::Says { answer, entry } => {
+            let printed = put(form, answer, entry, out);
             Progress {
                 lines,
                 printed,
                 is_started: true,
                 is_going: run.is_going,
+                form,
             }
         }
         Reply::Stops { wrong } => {
@@ -192,8 +207,20 @@ fn told(reply: Reply, out: &mut [u8; LINE], run: Progress) -> Progress
                 printed,
                 is_started: run.is_started,
                 is_going: false,
+                form,
             }
         }
+    }
+}
+
+// What a call is printed as.
+fn put(form: Form, answer: Answer, entry: Entry, out: &mut [u8; LINE]) -> usize
+    ensures printed { λ r. ⌜ CallPrinted form answer entry (now (out .entry)) (now (out .exit)) r ⌝ }
+    ensures within { λ r. ⌜ Within r (now (out .exit)) × (r ≤ lineRoom) ⌝ }
+{
+    match form {
+        Form::Answers => print::line(answer, out),
+        Form::Log => printlog::entry(entry, out),
     }
 }
 

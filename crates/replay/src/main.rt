@@ -1,12 +1,11 @@
-// Replays a file of calls over a class-tree file, and prints the answers, as docs/FORMS.md sets down.
+// Replays a file of calls over a class-tree file, and prints the answers or the log, as docs/FORMS.md sets them down.
 mod lines;
 mod output;
 mod turns;
 
 use console::Status;
-use print::Answer;
+use lines::Form;
 use tree::Tree;
-use tree::Verdict;
 
 fn main() {
     console::end(run());
@@ -14,58 +13,58 @@ fn main() {
 
 fn run() -> Status {
     match os::arg_count() {
-        2 => tree_argument(false),
-        3 => tree_argument(true),
-        _ => console::usage(b"usage: replay TREE [CALLS]\n"),
+        2 => show(),
+        3 => calls(Form::Answers, 1),
+        4 => log(),
+        _ => misused(),
     }
 }
 
-// The first argument, which names a class-tree file.
-fn tree_argument(has_calls: bool) -> Status {
-    let mut name = io::buffer();
-    let n = os::arg(1, &mut name);
-    if os::errno() != 0 {
-        os::fail(b"TREE");
-        return Status::Failed;
-    }
-    tree_file(&name[..n], has_calls)
+fn misused() -> Status {
+    console::usage(b"usage: replay TREE [CALLS]\n       replay --log TREE CALLS\n")
 }
 
-// Reads the class-tree file of that name. Its tree is replayed over, or printed where there are no calls.
-fn tree_file(name: &[u8], has_calls: bool) -> Status {
-    let told = console::read_tree(name);
-    let reads = told.answer;
-    let bursts::Answered::Reads { verdict } = reads else {
+// Prints the tree.
+fn show() -> Status {
+    let told = console::tree_argument(1);
+    if !told.is_there {
         return Status::Failed;
-    };
-    if let Verdict::Refused { why, class } = verdict {
-        console::say(Answer::TreeRefused { why, class });
-        return Status::Failed;
-    }
-    if has_calls {
-        return calls_argument(told.tree);
     }
     console::done(console::say_tree(told.tree))
 }
 
-// The second argument, which names a file of calls.
-fn calls_argument(tree: Tree) -> Status {
+// The log, where the first argument asks for it.
+fn log() -> Status {
+    let mut word = io::buffer();
+    let n = os::arg(1, &mut word);
+    if wording::is(&word[..n], b"--log") {
+        return calls(Form::Log, 2);
+    }
+    misused()
+}
+
+// Replays the calls. The argument at that place names the tree, and the next one the calls.
+fn calls(form: Form, at: usize) -> Status {
+    let told = console::tree_argument(at);
+    if !told.is_there {
+        return Status::Failed;
+    }
     let mut name = io::buffer();
-    let n = os::arg(2, &mut name);
+    let n = os::arg(std::num::wrapping_add_usize(at, 1), &mut name);
     if os::errno() != 0 {
         os::fail(b"CALLS");
         return Status::Failed;
     }
-    calls_file(tree, &name[..n])
+    calls_file(form, told.tree, &name[..n])
 }
 
-fn calls_file(tree: Tree, name: &[u8]) -> Status {
+fn calls_file(form: Form, tree: Tree, name: &[u8]) -> Status {
     let fd = os::open_read(name);
     if fd < 0 {
         os::fail(name);
         return Status::Failed;
     }
-    let is_done = turns::replay(tree, fd, name);
+    let is_done = turns::replay(form, tree, fd, name);
     libc::close(fd);
     console::done(is_done)
 }

@@ -6,6 +6,7 @@ ghost use Rattle.state.specs.State.{Reached};
 ghost use Rattle.print.specs.Promises.{lineRoom};
 ghost use Rattle.replay.specs.Text.{KeptInFront, Finished};
 use crate::lines;
+use crate::lines::Form;
 use crate::output;
 use crate::output::Waiting;
 use print::LINE;
@@ -26,13 +27,14 @@ struct Window {
 }
 
 // Replays the calls of the open file over the tree. Whether all were replayed, and all answers written.
-pub fn replay(tree: Tree, fd: i32, name: &[u8]) -> bool {
+pub fn replay(form: Form, tree: Tree, fd: i32, name: &[u8]) -> bool {
     let mut words = [0u64; CELLS];
     let mut lengths = [0u16; PLACES];
     let mut text = io::large_buffer();
     let mut out = io::large_buffer();
     sched::start(tree::empty(), 0, &mut words, &mut lengths);
     turns(
+        form,
         tree,
         fd,
         name,
@@ -46,6 +48,7 @@ pub fn replay(tree: Tree, fd: i32, name: &[u8]) -> bool {
 // Each turn replays a line of `text`, or reads more where it has no whole line. A proved loop has to end, and nothing
 // says that a file does: so the turns are counted down, from a number that no run uses up.
 fn turns(
+    form: Form,
     tree: Tree,
     fd: i32,
     name: &[u8],
@@ -57,7 +60,7 @@ fn turns(
     requires { ⌜ Reached (now words) (now lengths) × (lineRoom ≤ length (now out)) ⌝ }
 {
     let mut line = [0u8; LINE];
-    let mut run = lines::before();
+    let mut run = lines::before(form);
     let mut at = before();
     let mut left = u64::MAX;
     while left > 0 && at.is_open && run.is_going {

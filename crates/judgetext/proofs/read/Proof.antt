@@ -15,7 +15,7 @@ returns-2 c =
     let takes = rw (c .before .step2 .ensures) at (c .take .ensures .0) in (
       λ h law shows.
           let right = takes h law shows in
-          byte-right (right .shows) {seen = Ended (c .before .before .before .before .before .n .given .0 .0)} (sym (c .before .before .before .before .before .n .given .1) ∙ c .before .before .before .before .before .before .before .see .ensures) (right .takes),
+          byte-right {next = right .next} (right .shows) {seen = Ended (c .before .before .before .before .before .n .given .0 .0)} (sym (c .before .before .before .before .before .n .given .1) ∙ c .before .before .before .before .before .before .before .see .ensures) (right .takes),
       c .take .ensures .1,
     )
 

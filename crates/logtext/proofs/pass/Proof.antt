@@ -1,36 +1,15 @@
--- `logtext::pass` meets its contract: each arm is a case of the definition.
+-- `logtext::pass` meets its contract: the test is the definition's.
 -- Assumes nothing.
+use borrow.Author.Tests.{eq-eqb, ne-eqb}
 use borrow.Author.Needs.{needs}
 use Rattle.logtext.proofs.pass.Statement.{statement}
 use Rattle.logtext.proofs.pass.Tie as tie
 
 returns : tie.Need-returns
-returns c = rw (c .before .enum-told .given .1) (c .next-line .ensures)
+returns c = rw (eq-eqb _ _ (c .before .if1 .taken)) (c .next-line .ensures)
 
 returns-2 : tie.Need-returns-2
-returns-2 c = rw (c .before .kind .given .1)
-
-returns-3 : tie.Need-returns-3
-returns-3 c = rw (c .enum-told2 .given .1)
-
-returns-4 : tie.Need-returns-4
-returns-4 c = rw (c .enum-told3 .given .1)
-
-returns-5 : tie.Need-returns-5
-returns-5 c = rw (c .enum-told4 .given .1)
+returns-2 c = rw (ne-eqb _ _ (c .if1 .left))
 
 pub pass-spec : {M : Type 1} → statement M
-pass-spec =
-    tie.close
-    (tie.spec
-    (λ c. search needs)
-    (λ c κs. search needs)
-    (λ c. search needs)
-    (λ c. search needs)
-    (λ c. search needs)
-    (λ c. search needs)
-    returns
-    returns-2
-    returns-3
-    returns-4
-    returns-5)
+pass-spec = tie.close (tie.spec (λ c κs. search needs) returns returns-2)

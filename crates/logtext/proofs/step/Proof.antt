@@ -1,7 +1,7 @@
 -- `logtext::step` meets its contract: each arm is a case of the definition.
 -- Assumes nothing.
 use mathlib.Core.Path.{ap, _∙_}
-use Rattle.logtext.specs.Scans.{onward, passed, stepped}
+use Rattle.logtext.specs.Scans.{onward, stepped}
 use borrow.Author.Needs.{needs}
 use Rattle.logtext.proofs.step.Statement.{statement}
 use Rattle.logtext.proofs.step.Tie as tie
@@ -16,7 +16,7 @@ returns-2 c = rw (c .before .before .enum-told2 .given .1) (c .go-on2 .ensures �
 
 returns-3 : tie.Need-returns-3
 unfolding stepped
-returns-3 c = rw (c .before .before .enum-told3 .given .1) (c .pass .ensures ∙ ap (passed _) (c .before .told3 .ensures))
+returns-3 c = rw (c .before .enum-told3 .given .1) (c .pass .ensures)
 
 pub step-spec : {M : Type 1} → statement M
 step-spec =
@@ -29,7 +29,6 @@ step-spec =
     (λ c κs. search needs)
     (λ c κs. search needs)
     (λ c. search needs)
-    (λ c κs. search needs)
     (λ c κs. search needs)
     returns
     returns-2

@@ -40,12 +40,19 @@ returns-6 c = same-as (ap said (c .before .before .before .before .before .enum-
 
 returns-7 : tie.Need-returns-7
 unfolding further
-returns-7 c = same-as (ap said (c .before .before .before .before .before .before .before .before .before .before .before .wrong .given .1)) (then (c .before .before .before .before .before .before .before .named .ensures .0) (c .before .before .text7 .ensures))
+returns-7 c = same-as (ap said (c .before .before .before .before .before .enum-told7 .given .1)) (c .before .before .text7 .ensures)
+
+returns-8 : tie.Need-returns-8
+unfolding further
+returns-8 c = same-as (ap said (c .before .before .before .before .before .before .before .before .before .before .before .wrong .given .1)) (then (c .before .before .before .before .before .before .before .named .ensures .0) (c .before .before .text8 .ensures))
 
 pub fault-spec : {M : Type 1} → statement M
 fault-spec =
     tie.close
     (tie.spec
+    (λ c. search needs)
+    (λ c. search needs)
+    (λ c κs. search needs)
     (λ c. search needs)
     (λ c. search needs)
     (λ c κs. search needs)
@@ -83,4 +90,6 @@ fault-spec =
     (λ c. search needs)
     returns-6
     (λ c. search needs)
-    returns-7)
+    returns-7
+    (λ c. search needs)
+    returns-8)

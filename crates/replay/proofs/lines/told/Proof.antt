@@ -11,10 +11,10 @@ returns : tie.Need-returns
 returns c = (rw (c .enum-told .given .1) (told-silent _ _ (search needs)), ((omega arith, refl), omega arith))
 
 returns-2 : tie.Need-returns-2
-returns-2 c = (rw (c .before .before .before .reply .given .1) (told-says _ _ _ (search needs) (c .line .ensures .0)), (c .line .ensures .0 .within, c .line .ensures .1))
+returns-2 c = (rw (c .before .before .before .reply .given .1) (told-says _ _ _ (search needs) (c .put .ensures .0)), c .put .ensures .1)
 
 returns-3 : tie.Need-returns-3
-returns-3 c = (rw (c .before .before .before .reply2 .given .1) (told-stops _ _ _ (search needs) (c .line2 .ensures .0)), (c .line2 .ensures .0 .within, c .line2 .ensures .1))
+returns-3 c = (rw (c .before .before .before .reply2 .given .1) (told-stops _ _ _ (search needs) (c .line .ensures .0)), (c .line .ensures .0 .within, c .line .ensures .1))
 
 pub told-spec : {M : Type 1} → statement M
 told-spec =

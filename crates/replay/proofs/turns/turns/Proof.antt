@@ -42,31 +42,32 @@ queue-requires-2 c κs =
 
 loop-again : tie.Need-loop-again Inv-loop μ-loop
 loop-again c =
+    let inv = c .before .before .before .before .before .before .loop .inv in
     ⊎-elim
     (λ w. (
       rw (w .13, w .14) (w .6 .ensures .1 .0),
       rw (w .16, w .19, w .12 .ensures .2) (w .9 .ensures .within .0),
-      omega (arith, w .0 .taken, ap (λ (a : Window). a .from) (w .19), w .12 .ensures .0, ap (λ (a : Window). a .end) (w .19), w .12 .ensures .1),
-      omega (arith, ap length (w .15), ap (λ (a : Window). a .end) (w .19), w .12 .ensures .1),
-      omega (arith, ap length (w .15)),
-      omega (arith, ap length (w .16), w .10 .given),
+      omega (arith, inv .1, inv .2, inv .3, inv .4, inv .5, w .0 .taken, ap (λ (a : Window). a .from) (w .19), w .12 .ensures .0, ap (λ (a : Window). a .end) (w .19), w .12 .ensures .1),
+      omega (arith, inv .1, inv .2, inv .3, inv .4, inv .5, ap length (w .15), ap (λ (a : Window). a .end) (w .19), w .12 .ensures .1),
+      omega (arith, inv .1, inv .2, inv .3, inv .4, inv .5, ap length (w .15)),
+      omega (arith, inv .1, inv .2, inv .3, inv .4, inv .5, ap length (w .16), w .10 .given),
     ))
     (⊎-elim
     (λ w. (
-      rw (w .10, w .11) (c .before .before .before .before .before .before .loop .inv .0),
+      rw (w .10, w .11) (inv .0),
       rw (w .13, w .16, w .9 .ensures .2) (w .6 .ensures .within .0),
-      omega (arith, ap (λ (a : Window). a .from) (w .16), w .9 .ensures .0, ap (λ (a : Window). a .end) (w .16), w .9 .ensures .1),
-      omega (arith, ap length (w .12), ap (λ (a : Window). a .end) (w .16), w .9 .ensures .1),
-      omega (arith, ap length (w .12)),
-      omega (arith, ap length (w .13), w .7 .given),
+      omega (arith, inv .1, inv .2, inv .3, inv .4, inv .5, ap (λ (a : Window). a .from) (w .16), w .9 .ensures .0, ap (λ (a : Window). a .end) (w .16), w .9 .ensures .1),
+      omega (arith, inv .1, inv .2, inv .3, inv .4, inv .5, ap length (w .12), ap (λ (a : Window). a .end) (w .16), w .9 .ensures .1),
+      omega (arith, inv .1, inv .2, inv .3, inv .4, inv .5, ap length (w .12)),
+      omega (arith, inv .1, inv .2, inv .3, inv .4, inv .5, ap length (w .13), w .7 .given),
     ))
     (λ w. (
-      rw (w .9, w .10) (c .before .before .before .before .before .before .loop .inv .0),
-      omega (arith, ap (λ (a : Window). a .used) (w .15), w .6 .ensures .1),
-      omega (arith, ap (λ (a : Window). a .from) (w .15), w .6 .ensures .0),
-      omega (arith, w .6 .ensures .2, ap (λ (a : Window). a .end) (w .15), ap length (w .11)),
-      omega (arith, ap length (w .11), w .7 .given),
-      omega (arith, ap length (w .12)),
+      rw (w .9, w .10) (inv .0),
+      omega (arith, inv .1, inv .2, inv .3, inv .4, inv .5, ap (λ (a : Window). a .used) (w .15), w .6 .ensures .1),
+      omega (arith, inv .1, inv .2, inv .3, inv .4, inv .5, ap (λ (a : Window). a .from) (w .15), w .6 .ensures .0),
+      omega (arith, inv .1, inv .2, inv .3, inv .4, inv .5, w .6 .ensures .2, ap (λ (a : Window). a .end) (w .15), ap length (w .11)),
+      omega (arith, inv .1, inv .2, inv .3, inv .4, inv .5, ap length (w .11), w .7 .given),
+      omega (arith, inv .1, inv .2, inv .3, inv .4, inv .5, ap length (w .12)),
     )))
     (c .if3 .came)
 

@@ -1,0 +1,4 @@
+pub mod Spelled
+pub mod Lines
+pub mod Promises
+pub mod Theorems
