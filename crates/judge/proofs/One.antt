@@ -55,19 +55,20 @@ isRefused : Verdict → Bool
 isRefused Right = false
 isRefused (Verdict.Refused why class) = true
 
-clash : {A : Type 0} {why : Refusal} {class : ℕ} → Verdict.Refused why class ≡ Right → A
+pub clash : {A : Type 0} {why : Refusal} {class : ℕ} → Verdict.Refused why class ≡ Right → A
 unfolding isRefused
 clash e = never refl (ap isRefused e)
+
+-- what a verdict on the tree is told as, where it decides
+abbrev pub toldOf : Verdict → Judgement
+toldOf Right = Accepted
+toldOf (Verdict.Refused why class) = TreeRefused why class
 
 -- the promise of judging a whole log
 pub judge-one : (tree : Tree) (first : ℕ) (log : List ℕ) (v w : Judgement) → first < wheel → Judged tree first log v → Judged tree first log w → v ≡ w
 judge-one tree first log v w small (refused {start = x} s) (refused {start = y} t) =
     let same = starts-one tree first _ _ x y s t .0 in
     ap toldOf same
-  where
-    toldOf : Verdict → Judgement
-    toldOf Right = Accepted
-    toldOf (Verdict.Refused why class) = TreeRefused why class
 judge-one tree first log v w small (refused {start = x} s) (replayed {start = y} t judges) = clash (starts-one tree first _ _ x y s t .0)
 judge-one tree first log v w small (replayed {start = x} s judges) (refused {start = y} t) = clash (starts-one tree first _ _ y x t s .0)
 judge-one tree first log v w small (replayed {start = x} s judges) (replayed {start = y} {next = n} t judges′) =

@@ -2,3 +2,4 @@ pub mod Turns
 pub mod WordBytes
 pub mod WordReads
 pub mod RecordReads
+pub mod Examples

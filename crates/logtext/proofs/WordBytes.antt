@@ -11,24 +11,20 @@ use Rattle.logtext.specs.declared.Kind.{Kind}
 use Rattle.logtext.specs.declared.Kind.the-variants.{Digit, Blank, LineEnd, Hash, Other}
 use Rattle.logtext.specs.Scans.{kindOf, shown, shownIn}
 
--- the kind of a byte by the tests of it
+-- the kind of a byte by its tests: whether it ends a line, is `#`, is white space
 abbrev kindBy : Bool → Bool → Bool → Kind → Kind
 kindBy ends hash blank other = cond ends LineEnd (cond hash Hash (cond blank Blank other))
 
-plain-by : (ends hash blank : Bool) (other : Kind) → (not blank && (not hash && not ends)) ≡ true → kindBy ends hash blank other ≡ other
+plain-by : (blank hash ends : Bool) (other : Kind) → (not blank && (not hash && not ends)) ≡ true → kindBy ends hash blank other ≡ other
 plain-by false false false other h = refl
 plain-by false false true other h = absurd (false≢true h)
-plain-by false true false other h = absurd (false≢true h)
-plain-by false true true other h = absurd (false≢true h)
-plain-by true false false other h = absurd (false≢true h)
-plain-by true false true other h = absurd (false≢true h)
-plain-by true true false other h = absurd (false≢true h)
-plain-by true true true other h = absurd (false≢true h)
+plain-by false true ends other h = absurd (false≢true h)
+plain-by true hash ends other h = absurd (false≢true h)
 
 -- a byte of a word is a digit, or one that no number has
 pub plain-kind : (b : ℕ) → isPlain b ≡ true → kindOf b ≡ cond (isDigit b) (Digit (b - 48)) Other
 unfolding kindOf
-plain-kind b h = plain-by (eqb b lineFeed) (eqb b 35) (isBlank b) (cond (isDigit b) (Digit (b - 48)) Other) h
+plain-kind b h = plain-by (isBlank b) (eqb b 35) (eqb b lineFeed) (cond (isDigit b) (Digit (b - 48)) Other) h
 
 ends-by : (ends hash blank : Bool) (other : Kind) (n : ℕ) → (not blank && (not hash && not ends)) ≡ false
     → shownIn n (kindBy ends hash blank other) ≡ shown (narrowed n)

@@ -72,6 +72,7 @@ pub fn step(scan: Scan, b: u8) -> Scan
     }
 }
 
+// Which kind a byte is; a digit with its worth.
 fn told(b: u8) -> Kind
     ensures { λ r. ⌜ r ≡ kindOf b ⌝ }
 {

@@ -73,7 +73,7 @@ pub fn capped(value: u64) -> u64
     value
 }
 
-// A number that its digits made, capped so.
+// A number as an operand: one of 32 bits, or too large.
 pub fn narrow(value: u64) -> Operand
     ensures { λ r. ⌜ r ≡ narrowed value ⌝ }
 {
@@ -83,6 +83,7 @@ pub fn narrow(value: u64) -> Operand
     Operand::Of(value as u32)
 }
 
+// A byte as a number of 64 bits.
 pub fn wide(b: u8) -> u64
     ensures { λ r. ⌜ r ≡ b ⌝ }
 {

@@ -1,0 +1,3 @@
+-- The laws of a log judged over a file.
+pub mod Judging
+pub mod One

@@ -1,0 +1,2 @@
+-- What the function for hosts in C promises.
+pub mod Promises
