@@ -19,6 +19,7 @@ ghost use Rattle.rules.specs.Queues.{queue};
 ghost use Rattle.rules.specs.Fair.{virtualTimeOf};
 ghost use Rattle.state.specs.State.{Reached};
 ghost use Rattle.state.specs.Heads.{EveryHistory};
+ghost use Rattle.judgefile.specs.Promises.{JudgeTold};
 ghost use Rattle.host.specs.Words.{treeSaid};
 ghost use Rattle.host.specs.Promises.{StartTold, StartFileTold, WriteTold, ArriveTold, DepartTold, HeadTold};
 
@@ -75,6 +76,14 @@ pub extern "C" fn hfsc_write(tree: &[u32], out: &mut [u8], total: &mut u32, faul
     *total = written_total(answer);
     *fault = verdict_class(verdict);
     verdict_number(verdict)
+}
+
+// Judges the log of a box over a tree file, from a first stamp. The answer is the number of the judgement, and `out` says more of it.
+#[no_mangle]
+pub extern "C" fn hfsc_judge(file: &[u8], first: u32, log: &[u32], out: &mut [u64; 4]) -> u32
+    ensures { λ r. ⌜ JudgeTold (now (file .entry)) first (now (log .entry)) r (now (out .exit)) ⌝ }
+{
+    judgefile::judge_file(file, first, log, out)
 }
 
 // A packet of this length arrives for this class. The answer is 0, with the packet's number in `number`,
