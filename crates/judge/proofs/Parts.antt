@@ -25,7 +25,7 @@ isAccepted (judgement.Refused k why) = false
 isAccepted (judgement.AnotherChoice k ours) = false
 
 -- a log with a wrong record is not accepted
-wrong-named : {A : Type 0} (k : ℕ) (f : Finding) → holds f ≡ false → named k f ≡ Accepted → A
+pub wrong-named : {A : Type 0} (k : ℕ) (f : Finding) → holds f ≡ false → named k f ≡ Accepted → A
 wrong-named k Holds e a = never refl e
 wrong-named k Malformed e a = never refl (sym (ap isAccepted a))
 wrong-named k (Refused why) e a = never refl (sym (ap isAccepted a))

@@ -1,3 +1,5 @@
 -- The laws of a log's text.
 pub mod Steps
 pub mod Onward
+pub mod Turns
+pub mod Meaning
