@@ -2,4 +2,5 @@
 pub mod Steps
 pub mod Onward
 pub mod Turns
+pub mod One
 pub mod Meaning
