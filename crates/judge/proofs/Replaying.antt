@@ -1,8 +1,13 @@
 -- One record replayed: what its call promises makes what the replay promises, a lawful history stays lawful, and one history allows one finding.
 -- Assumes nothing.
 use Prim.Native.Nat.{ℕ}
+use native.Mathlib.Omega.{arith}
 use mathlib.Core.Path.{_≡_, refl, sym, ap, _∙_}
-use mathlib.Core.List.{List}
+use mathlib.Core.Bool.{false}
+use mathlib.Core.Logic.{inl, inr}
+use mathlib.Core.List.{List, [], _∷_}
+use types.Run.{OneOf}
+use denote.Enum.Declared.{tagOf}
 use Rattle.rules.specs.declared.Arrival.{Arrival}
 use Rattle.rules.specs.declared.Departure.{Departure}
 use Rattle.rules.specs.Calls.{History}
@@ -15,7 +20,8 @@ use Rattle.log.specs.declared.Record.{Record}
 use Rattle.log.specs.declared.Record.the-variants.{Arrived, Departed, FoundEmpty, Malformed}
 use Rattle.judge.specs.declared.Finding.{Finding}
 use Rattle.judge.specs.declared.Finding.the-variants as finding
-use Rattle.judge.specs.Judging.{arrivalFinding, departureFinding, emptyFinding, ArrivalReplayed, DepartureReplayed, Replayed}
+use Rattle.judge.proofs.Finding.{the-type}
+use Rattle.judge.specs.Judging.{holds, arrivalFinding, departureFinding, emptyFinding, ArrivalReplayed, DepartureReplayed, Replayed}
 use Rattle.judge.specs.Promises.{ReplayRight}
 
 module _ {h : History} {m l : List ℕ} {found : Finding} where
@@ -54,3 +60,12 @@ module _ (h : History) (law : Lawful h) (f g : Finding) (x y : History) where
   replayed-one (Departed stamp class bytes) p q = departure-one stamp (departureFinding class bytes) p q
   replayed-one (FoundEmpty stamp) p q = departure-one stamp emptyFinding p q
   replayed-one Malformed p q = (p .0 ∙ sym (q .0), p .1 ∙ sym (q .1))
+
+-- a finding that is another than the right one
+pub not-holds : (f : Finding) → OneOf (1 ∷ 2 ∷ 3 ∷ []) (tagOf the-type f) → holds f ≡ false
+not-holds finding.Holds (inl k) = absurd (omega arith)
+not-holds finding.Holds (inr (inl k)) = absurd (omega arith)
+not-holds finding.Holds (inr (inr k)) = absurd (omega arith)
+not-holds finding.Malformed k = refl
+not-holds (finding.Refused why) k = refl
+not-holds (finding.Another ours) k = refl

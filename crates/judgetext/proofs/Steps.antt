@@ -9,12 +9,12 @@ use mathlib.Core.List.{List, [], _∷_}
 use types.Run.{OneOf}
 use denote.Enum.Declared.{tagOf}
 use Rattle.rules.specs.Calls.{History}
-use Rattle.rules.specs.Lawful.{Lawful}
+use Rattle.rules.proofs.Tests.{never}
 use Rattle.state.specs.State.{Shows}
 use Rattle.log.specs.Records.{recordOf}
 use Rattle.judge.specs.declared.Finding.{Finding}
 use Rattle.judge.specs.declared.Finding.the-variants as finding
-use Rattle.judge.proofs.Finding as finding-type
+use Rattle.judge.specs.Judging.{holds}
 use Rattle.judge.specs.declared.Judgement.the-variants.{Accepted, Malformed}
 use Rattle.judge.specs.Promises.{ReplayRight}
 use Rattle.logtext.specs.declared.Seen.{Seen}
@@ -38,14 +38,12 @@ module _ {h next : History} {at after : Progress} {m l : List ℕ} (shows : Show
   pub byte-right : {b : ℕ} {seen : Seen} → seen ≡ seenAt (at .scan) b → ReadsSeen h seen at b after next → ByteRight h at b after m l
   byte-right {b = b} e reads = record { next = next; reads = subst (λ (x : Seen). ReadsSeen h x at b after next) e reads; shows = shows }
 
--- a finding that is another than the right one
-pub completed-wrong : (at : Progress) (f : Finding) → OneOf (1 ∷ 2 ∷ 3 ∷ []) (tagOf finding-type.the-type f) → wrongAt at f ≡ completed at f
-completed-wrong at finding.Holds (inl k) = absurd (omega arith)
-completed-wrong at finding.Holds (inr (inl k)) = absurd (omega arith)
-completed-wrong at finding.Holds (inr (inr k)) = absurd (omega arith)
-completed-wrong at finding.Malformed k = refl
-completed-wrong at (finding.Refused why) k = refl
-completed-wrong at (finding.Another ours) k = refl
+-- a record that is not right
+pub completed-wrong : (at : Progress) (f : Finding) → holds f ≡ false → wrongAt at f ≡ completed at f
+completed-wrong at finding.Holds e = never refl e
+completed-wrong at finding.Malformed e = refl
+completed-wrong at (finding.Refused why) e = refl
+completed-wrong at (finding.Another ours) e = refl
 
 -- a text that is not wrong, by the numbers that are held
 module _ (standing : Standing) (kept : OneOf (0 ∷ 2 ∷ []) (tagOf standing-type.the-type standing)) where

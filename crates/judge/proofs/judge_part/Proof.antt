@@ -1,21 +1,13 @@
 -- `judge::judge_part` meets its contract: what is left to judge decides, from the history that the arrays show.
 -- Assumes nothing.
 use Prim.Native.Nat.{_*_, _-_, _≤_}
-use mathlib.Core.Path.{_≡_, refl, sym}
-use mathlib.Core.Bool.{false}
-use mathlib.Core.Logic.{inl, inr}
-use mathlib.Core.List.{[], _∷_}
-use types.Run.{OneOf}
-use denote.Enum.Declared.{tagOf}
+use mathlib.Core.Path.{_≡_}
 use native.Mathlib.Omega.{arith}
 use lib.ListN.{length}
 use borrow.Author.Needs.{needs}
 use Rattle.state.specs.State.{Reached}
 use Rattle.state.specs.Heads.{EveryHistory}
-use Rattle.judge.specs.declared.Finding.{Finding}
-use Rattle.judge.specs.declared.Finding.the-variants.{Holds, Malformed, Refused, Another}
-use Rattle.judge.specs.Judging.{holds}
-use Rattle.judge.proofs.Finding.{the-type}
+use Rattle.judge.proofs.Replaying.{not-holds}
 use Rattle.judge.proofs.Judging.{Onward, onward-first, onward-next, onward-wrong, onward-short, onward-ended}
 use Rattle.judge.proofs.judge_part.Statement.{statement}
 use Rattle.judge.proofs.judge_part.Tie as tie
@@ -44,15 +36,6 @@ enum-told c = search needs
 
 name-requires : tie.Need-name-requires Inv-loop μ-loop
 name-requires c κs = search needs
-
--- a finding that is another than the right one
-not-holds : (f : Finding) → OneOf (1 ∷ 2 ∷ 3 ∷ []) (tagOf the-type f) → holds f ≡ false
-not-holds Holds (inl k) = absurd (omega arith)
-not-holds Holds (inr (inl k)) = absurd (omega arith)
-not-holds Holds (inr (inr k)) = absurd (omega arith)
-not-holds Malformed k = refl
-not-holds (Refused why) k = refl
-not-holds (Another ours) k = refl
 
 returns : tie.Need-returns Inv-loop μ-loop
 returns c =
