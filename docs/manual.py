@@ -14,6 +14,7 @@ from curves import AFTER, AROUND, BEFORE, WHOLE, dot, held, least, line, text
 
 REPO = Path(__file__).resolve().parent.parent
 PAGE = REPO / "docs/MANUAL.md"
+EXAMPLES = REPO / "examples"
 
 # Document 01's numbers.
 LATEST_BEND = 1048576
@@ -302,6 +303,69 @@ def words_of_the_tree(tree):
     return said
 
 
+def log_of_the_afternoon():
+    """The first stamp of examples/studio.calls, and the lines of its log, by the stored answers."""
+    lines = lambda name: [line.split() for line in (EXAMPLES / name).read_text().splitlines() if not line.startswith("#")]
+    calls, log = lines("studio.calls"), []
+    for call, answer in zip(calls, lines("studio.out"), strict=True):
+        if call[0] == "arrive" and answer[0] == "accepted":
+            log.append(" ".join(["1", *call[1:]]))
+        if call[0] == "depart" and answer[0] == "packet":
+            log.append(f"2 {call[1]} {answer[2]} {answer[6]}")
+        if call[0] == "depart" and answer[0] == "none":
+            log.append(f"3 {call[1]} 0 0")
+    return calls[0][1], log
+
+
+def other_choice():
+    """The first record of examples/other-box.log, started with the stamp 0, that sends another packet than our rules: its number, when our packet came, and the packet as printed.
+    Where no leaf is eligible, one leaf alone has to wait: the fair rule is not worked out here."""
+    curves = [c.curve for c in read_tree((EXAMPLES / "studio.txt").read_text())]
+    words = [int(word) for line in (EXAMPLES / "other-box.log").read_text().splitlines() for word in line.split("#")[0].split()]
+    records = [tuple(words[k : k + 4]) for k in range(0, len(words), 4)]
+    waiting, pieces, sent, left = ([f() for _ in curves] for f in (list, list, int, int))
+    for k, (kind, now, leaf, length) in enumerate(records):
+        if kind == 1:
+            if not waiting[leaf]:
+                pieces[leaf].append((now, sent[leaf]))
+            waiting[leaf].append((now, length))
+            continue
+        heads = [i for i, queue in enumerate(waiting) if queue]
+        times = {i: (deadline(curves[i], waiting[i][0][1], pieces[i], sent[i]), i) for i in heads if curves[i].kind != "none" and eligible(curves[i], pieces[i], sent[i]) <= now}
+        if not times and len(heads) > 1:
+            stop(f"record {k} of other-box.log: two leaves wait, and none is eligible")
+        ours = min(times.values())[1] if times else heads[0] if heads else 0
+        came, bytes_ours = waiting[ours][0] if heads else (now, 0)
+        if (leaf, length) != (ours, bytes_ours):
+            return records, k, came, (ours, left[ours], bytes_ours, eligible(curves[ours], pieces[ours], sent[ours]), times[ours][0])
+        if heads:
+            waiting[ours].pop(0)
+            left[ours] += 1
+            sent[ours] += held(bytes_ours) if times else 0
+    stop("other-box.log has no record with another choice")
+
+
+def words_of_the_logs():
+    first, log = log_of_the_afternoon()
+    records, k, came, (leaf, number, length, ripe, due) = other_choice()
+    _, now, sent, _ = records[k]
+    leaves = next(stamp for kind, stamp, where, _ in records[k:] if (kind, where) == (2, leaf))
+    full = leaves + held(length)
+    if came != ripe or not 0 < full - due < LATE:
+        stop("the page's words on other-box.log don't hold")
+    return [
+        f"`examples/studio.calls` starts with the stamp {first}",
+        f"./judge examples/studio.tree {first} studio.log",
+        *(f"    {line}\n" for line in log[:4]),
+        f"accepted {len(log)} records",
+        f"record {k}: another choice our rules: packet class {leaf} number {number} length {length} rule real-time eligible {ripe} deadline {due}",
+        f"Record {k} is `{' '.join(map(str, records[k]))}`: at tick {comma(now)} this box sent a packet of the copies, class {sent}.",
+        f"It came at tick {comma(came)}, is eligible since then, and is due at tick {comma(due)}.",
+        f"The same log without record {k} and all after it is accepted",
+        f"speech leaves at tick {comma(leaves)} and has left in full at {comma(full)}, {comma(full - due)} ticks after its deadline: less than the {comma(LATE)}",
+    ]
+
+
 def words_of_the_limits():
     """01's limits, where the page names them."""
     few, many = CLASSES
@@ -478,7 +542,7 @@ def main():
     tree_text = re.search(r"^    tree\n(?:    .*\n)+", page, re.M)
     if not tree_text:
         stop("docs/MANUAL.md has no tree")
-    said = words_of_the_sum() + words_of_the_tree(read_tree(tree_text[0])) + words_of_the_limits() + words_of_the_refusals()
+    said = words_of_the_sum() + words_of_the_tree(read_tree(tree_text[0])) + words_of_the_logs() + words_of_the_limits() + words_of_the_refusals()
     print("\n".join(said))
     check_said(page, said, tree_text[0])
     check_refusals(page)

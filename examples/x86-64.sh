@@ -1,4 +1,4 @@
-# The C compiler for the library of the crate `host`, which is for x86-64: host.sh and ../tests/bursts.sh take these lines into their own.
+# The C compiler for the library of the crate `host`, which is for x86-64: host.sh and ../tests/in-c.sh take these lines into their own.
 # It sets `compile`, the compiler with its flags, and `run`, what runs its programs: on another machine the cross compiler x86_64-linux-gnu-gcc, and the
 # toolchain's own emulator.
 case $(uname -m) in

@@ -193,26 +193,47 @@ fn answer(tree: &Tree, state: &mut Option<State>, call: Call) -> Result<String, 
     }
 }
 
-/// What a replay of these calls on this tree file prints, and its status. A refused call is an answer.
-pub fn replay(tree_file: &[u8], calls: &[u8]) -> Answer {
-    let tree = match file::read(tree_file) {
-        Ok(tree) => tree,
-        Err(refusal) => return Answer::ended(String::new(), refusal),
-    };
-    let mut printed = String::new();
-    let mut state = None;
+/// A replay up to its end or to a faulty line: what was printed for the calls, and the state after them, where there was a start.
+pub struct Replayed {
+    pub answers: String,
+    pub state: Option<State>,
+    pub fault: Option<FaultyLine>,
+}
+
+/// The lines of a file of calls, in their order.
+pub fn replayed(tree: &Tree, calls: &[u8]) -> Replayed {
+    let (mut answers, mut state) = (String::new(), None);
     for (number, line) in lines(calls) {
         let answered = match parse_line(line) {
             Ok(None) => continue,
-            Ok(Some(call)) => answer(&tree, &mut state, call),
+            Ok(Some(call)) => answer(tree, &mut state, call),
             Err(fault) => Err(fault),
         };
         match answered {
-            Ok(text) => printed += &(text + "\n"),
-            Err(fault) => return Answer::ended(printed, FaultyLine { number, fault }),
+            Ok(text) => answers += &(text + "\n"),
+            Err(fault) => return Replayed { answers, state, fault: Some(FaultyLine { number, fault }) },
         }
     }
-    Answer::done(printed)
+    Replayed { answers, state, fault: None }
+}
+
+/// What a replay of these calls on this tree file prints, and its status. A refused call is an answer.
+pub fn replay(tree_file: &[u8], calls: &[u8]) -> Answer {
+    match file::read(tree_file) {
+        Ok(tree) => {
+            let replayed = replayed(&tree, calls);
+            Answer::up_to(replayed.answers, replayed.fault)
+        }
+        Err(refusal) => Answer::ended(String::new(), refusal),
+    }
+}
+
+/// The stamp with which a file of calls starts, if its first call is `start`.
+pub fn first_stamp(calls: &[u8]) -> Option<u32> {
+    match lines(calls).find_map(|(_, line)| parse_line(line).transpose())? {
+        Ok(Call::Start { stamp }) => Some(stamp),
+        _ => None,
+    }
 }
 
 /// What `replay TREE` alone prints, and its status.

@@ -1,8 +1,8 @@
-//! What the lines of both texts share, a file of calls and the text of a tree: words, numbers, and what is wrong with a line.
+//! What the lines of all texts share, a file of calls, the text of a tree and the text of a log: words, numbers, and what is wrong with a line.
 
 use std::fmt;
 
-/// Why a replay or the reading of a tree's text ends at a line.
+/// Why a replay, or the reading of a tree's text or a log's, ends at a line.
 #[derive(Clone, Copy, Debug, PartialEq, Eq)]
 pub enum Fault {
     NotACall,
@@ -15,6 +15,8 @@ pub enum Fault {
     /// A class before `tree`, and one that is not the next.
     TreeFirst,
     NextClass(usize),
+    /// A word of a log that is no number of 32 bits.
+    NotANumber,
 }
 
 impl fmt::Display for Fault {
@@ -27,6 +29,7 @@ impl fmt::Display for Fault {
             Fault::StartedAlready => to.write_str("started already"),
             Fault::TreeFirst => to.write_str("tree comes first"),
             Fault::NextClass(number) => write!(to, "class {number} comes next"),
+            Fault::NotANumber => to.write_str("not a number"),
         }
     }
 }
@@ -66,6 +69,14 @@ pub fn number(digits: &[u8]) -> Result<u32, Fault> {
     digits.iter().try_fold(0, more).ok_or(Fault::TooLarge)
 }
 
+/// A word as a number of 32 bits, if it is one: decimal digits, with zeros in front or without.
+pub fn word_as_number(word: &[u8]) -> Option<u32> {
+    if word.is_empty() || !is_number(word) {
+        return None;
+    }
+    number(word).ok()
+}
+
 /// What a program prints on standard output, and its exit status.
 #[derive(Clone, Debug, PartialEq, Eq)]
 pub struct Answer {
@@ -79,8 +90,16 @@ impl Answer {
         Answer { printed, status: 0 }
     }
 
-    /// A refusal of the tree or a faulty line, after what was printed before.
+    /// A refusal of the tree, a faulty line or a wrong record, after what was printed before.
     pub fn ended(printed: String, last: impl fmt::Display) -> Answer {
         Answer { printed: format!("{printed}{last}\n"), status: 1 }
+    }
+
+    /// All was done, up to a faulty line where there is one.
+    pub fn up_to(printed: String, fault: Option<FaultyLine>) -> Answer {
+        match fault {
+            Some(line) => Answer::ended(printed, line),
+            None => Answer::done(printed),
+        }
     }
 }

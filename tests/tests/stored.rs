@@ -2,8 +2,9 @@
 
 use outside::calls::{replay, show_tree};
 use outside::file::read;
-use outside::gen::stored_scripts;
+use outside::gen::{log_corpus, log_scripts, stored_scripts};
 use outside::lines::Answer;
+use outside::logtext::replay_log;
 use outside::text::maketree;
 use outside::tree::refusal;
 use std::fs;
@@ -26,11 +27,11 @@ fn files_of_the_corpus(wanted: &str) -> Vec<PathBuf> {
     folder.filter(|path| path.extension().is_some_and(|end| end == wanted)).collect()
 }
 
-/// The status that corpus.sh expects by what is printed: 1 after the refusal of a tree, or a faulty line.
+/// The status that corpus.sh expects by what is printed: 1 after the refusal of a tree, a faulty line or a wrong record.
 fn status_told_by(out: &str) -> i32 {
     let last = out.lines().last().unwrap_or_default();
     let refused = last.strip_prefix("refused ").is_some_and(|rest| rest.contains(" class "));
-    i32::from(refused || last.starts_with("line "))
+    i32::from(refused || ["line ", "record ", "our rules: "].iter().any(|first| last.starts_with(first)))
 }
 
 #[test]
@@ -46,6 +47,33 @@ fn the_corpus() {
         let out = fs::read_to_string(tree.with_extension("out")).unwrap();
         assert_eq!(answer.printed, out, "{}", tree.display());
         assert_eq!(answer.status, status_told_by(&out), "{}", tree.display());
+    }
+}
+
+#[test]
+fn the_logs_of_replays_of_the_corpus() {
+    let logged = files_of_the_corpus("logged");
+    assert!(logged.len() >= 60);
+    for logged in logged {
+        let answer = replay_log(&fs::read(logged.with_extension("tree")).unwrap(), &fs::read(logged.with_extension("calls")).unwrap());
+        let out = fs::read_to_string(&logged).unwrap();
+        assert_eq!(answer.printed, out, "{}", logged.display());
+        assert_eq!(answer.status, status_told_by(&out), "{}", logged.display());
+    }
+}
+
+#[test]
+fn the_judged_logs_of_the_corpus() {
+    let cases = log_corpus();
+    assert_eq!(files_of_the_corpus("log").len(), cases.len());
+    for (number, case) in cases.iter().enumerate() {
+        let name = format!("corpus/j{number:03}-{}", case.name);
+        assert_eq!(bytes(&format!("{name}.log")), case.text, "{name}");
+        assert_eq!(bytes(&format!("{name}.class-tree")), case.tree_file, "{name}");
+        assert_eq!(text(&format!("{name}.first")), format!("{}\n", case.first), "{name}");
+        let (answer, out) = (case.answer(), text(&format!("{name}.out")));
+        assert_eq!(answer.printed, out, "{name}");
+        assert_eq!(answer.status, status_told_by(&out), "{name}");
     }
 }
 
@@ -70,6 +98,17 @@ fn the_scripts_of_bursts() {
         let name = format!("bursts/{number:03}-{}", script.name);
         assert_eq!(text(&format!("{name}.script")), script.text(), "{name}");
         assert_eq!(text(&format!("{name}.out")), script.answer(), "{name}");
+    }
+}
+
+#[test]
+fn the_scripts_of_logs() {
+    let logs = log_scripts();
+    assert_eq!(fs::read_dir(here("judge")).unwrap().count(), 2 * logs.len());
+    for (number, log) in logs.iter().enumerate() {
+        let name = format!("judge/{number:03}-{}", log.name);
+        assert_eq!(text(&format!("{name}.script")), log.script(), "{name}");
+        assert_eq!(text(&format!("{name}.out")), log.answer(), "{name}");
     }
 }
 

@@ -111,19 +111,22 @@ void hfsc_head_times(const uint64_t words[HFSC_WORDS], const uint16_t lengths[HF
 
 /* What hfsc_judge answers, and what it then writes into `out`, by place. Where there is nothing to say stands 0. */
 enum {
-    HFSC_ACCEPTED,      /* every record is what our rules say */
-    HFSC_TREE_REFUSED,  /* the file or its tree is refused:    0, number of the refusal, class that it names, 0 */
+    HFSC_ACCEPTED,      /* every record is what our rules say:  0, 0, 0, 0 */
+    HFSC_TREE_REFUSED,  /* the file or its tree is refused:     0, number of the refusal, class that it names, 0 */
     HFSC_MALFORMED,     /* the first wrong record is malformed: record, 0, 0, 0 */
     HFSC_REFUSED,       /* our scheduler refuses it:            record, number of the refusal, 0, 0 */
-    HFSC_ANOTHER_CHOICE /* our rules answer something else:     record, 1 where they send a packet, its class, its length; else record, 0, 0, 0 */
+    HFSC_ANOTHER_CHOICE /* our rules answer something else:     record, 1 where they send a packet, its class, its length; else 0, 0, 0 */
 };
 
 /* Judges the log of a box, over a class-tree file of so many bytes and from a first stamp. The log is so many numbers, four to a record:
- *   1, stamp, class, length   an arrival;   2, stamp, class, length   a departure that sent that packet;   3, stamp, 0, 0   a departure that found none waiting.
- * It is accepted exactly if, replayed from the start, every arrival is accepted, and every departure is the one that our rules give, class and length both.
- * Otherwise the first wrong record is named, counted from 0. A record of another kind, or of kind 3 with a class or a length, is malformed, and so is a last
- * record of fewer than four numbers. An empty log is accepted. It asks for no state: it keeps one of its own, as long as `words` and
- * `lengths`, on the stack. */
+ *   1, stamp, class, length   an arrival
+ *   2, stamp, class, length   a departure that sent that packet
+ *   3, stamp, 0, 0            a departure that found none waiting
+ * It is accepted exactly if, replayed from the start, every arrival is accepted, and every departure, one that found none waiting too, is the
+ * one that our rules give, class and length both. Otherwise the first wrong record is named, counted from 0: malformed if its kind is none of
+ * these, or 3 with a class or a length, or if it is the last and has fewer than four numbers; else refused; else another choice. A file that is
+ * refused is told before anything of the log is looked at. An empty log is accepted. The call asks for no state: it keeps one of its own, as long
+ * as `words` and `lengths`, on the stack. */
 uint32_t hfsc_judge(const uint8_t *file, size_t bytes, uint32_t first, const uint32_t *log, size_t numbers, uint64_t out[4]);
 
 #ifdef __cplusplus

@@ -25,7 +25,7 @@ use Rattle.judge.specs.declared.Finding.{Finding}
 use Rattle.judge.specs.declared.Finding.the-variants.{Holds}
 use Rattle.judge.specs.declared.Judgement.{Judgement}
 use Rattle.judge.specs.declared.Judgement.the-variants.{Accepted, TreeRefused, Malformed}
-use Rattle.judge.specs.Judging.{Replayed, holds, named, Judges, ended, right, wrong, short, Judged, refused, replayed}
+use Rattle.judge.specs.Judging.{RecordReplayed, holds, judgementAt, Judges, ended, right, wrong, short, LogJudged, refused, replayed}
 use Rattle.judge.specs.Promises.{ReplayRight, PartRight}
 use Rattle.judge.proofs.Replaying.{replayed-lawful}
 
@@ -74,7 +74,7 @@ module _ {h : History} {log : List ℕ} {k at : ℕ} {m l : List ℕ} (o : Onwar
 
     pub onward-next : found ≡ Holds → Onward h log (k + 1) (at + 4) m′ l′
     onward-next e =
-        let held = subst (λ (f : Finding). Replayed (o .here) (recordFrom log at) f (now .next)) e (now .replayed) in
+        let held = subst (λ (f : Finding). RecordReplayed (o .here) (recordFrom log at) f (now .next)) e (now .replayed) in
         record {
           here = now .next;
           lawful = replayed-lawful (o .here) (o .lawful) (recordFrom log at) found (now .next) (now .replayed);
@@ -82,11 +82,11 @@ module _ {h : History} {log : List ℕ} {k at : ℕ} {m l : List ℕ} (o : Onwar
           decides = λ v next j. o .decides v next (rw (four log at fits) (right {after = now .next} held j));
         }
 
-    pub onward-wrong : holds found ≡ false → PartRight h log (named k found) m′ l′
+    pub onward-wrong : holds found ≡ false → PartRight h log (judgementAt k found) m′ l′
     onward-wrong e =
         record {
           next = now .next;
-          judges = o .decides (named k found) (now .next) (rw (four log at fits) (wrong found (now .replayed) e));
+          judges = o .decides (judgementAt k found) (now .next) (rw (four log at fits) (wrong found (now .replayed) e));
           shows = now .shows;
         }
 
@@ -108,10 +108,10 @@ module _ {h : History} {log : List ℕ} {k at : ℕ} {m l : List ℕ} (o : Onwar
 
 -- the judgement of a whole log, from the promises of the start and of judging a part
 module _ {tree : Tree} {first : ℕ} {log m l : List ℕ} {answer : Verdict} (started : StartRight tree first answer m l) where
-  pub judged-refused : {why : Refusal} {class : ℕ} → answer ≡ Verdict.Refused why class → Judged tree first log (TreeRefused why class)
+  pub judged-refused : {why : Refusal} {class : ℕ} → answer ≡ Verdict.Refused why class → LogJudged tree first log (TreeRefused why class)
   judged-refused e = refused (subst (λ (v : Verdict). Starts tree first v (started .next)) e (started .starts))
 
-  pub judged-replayed : {m′ l′ : List ℕ} {verdict : Judgement} → first < wheel → answer ≡ Right → EveryHistory m l (λ h. PartRight h log verdict m′ l′) → Judged tree first log verdict
+  pub judged-replayed : {m′ l′ : List ℕ} {verdict : Judgement} → first < wheel → answer ≡ Right → EveryHistory m l (λ h. PartRight h log verdict m′ l′) → LogJudged tree first log verdict
   judged-replayed small e part =
       let starts = subst (λ (v : Verdict). Starts tree first v (started .next)) e (started .starts) in
       let here = started .next in

@@ -23,12 +23,12 @@ use Rattle.judge.specs.declared.Finding.{Finding}
 use Rattle.judge.specs.declared.Finding.the-variants.{Holds}
 use Rattle.judge.specs.declared.Judgement.{Judgement}
 use Rattle.judge.specs.declared.Judgement.the-variants.{Accepted, TreeRefused}
-use Rattle.judge.specs.Judging.{Replayed, holds, named, Judges, ended, right, wrong, short, Judged, refused, replayed}
+use Rattle.judge.specs.Judging.{RecordReplayed, holds, judgementAt, Judges, ended, right, wrong, short, LogJudged, refused, replayed}
 use Rattle.judge.specs.Promises.{ReplayRight, PartRight}
 use Rattle.judge.proofs.Replaying.{replayed-one, replayed-lawful}
 
 -- a record is right, or it is not
-right-or-wrong : {A : Type 0} (h x y : History) (f : Finding) → Lawful h → (r : Record) → Replayed h r Holds x → Replayed h r f y → holds f ≡ false → A
+right-or-wrong : {A : Type 0} (h x y : History) (f : Finding) → Lawful h → (r : Record) → RecordReplayed h r Holds x → RecordReplayed h r f y → holds f ≡ false → A
 right-or-wrong h x y f law r p q e = never refl (ap holds (replayed-one h law Holds f x y r p q .0) ∙ e)
 
 pub judges-one : {h : History} {k : ℕ} {log : List ℕ} {v w : Judgement} {x y : History} → Lawful h → Judges h k log v x → Judges h k log w y → (v ≡ w) × (x ≡ y)
@@ -44,7 +44,7 @@ judges-one {h = h} {x = x} law (wrong {kind = c} {stamp = s} {class = j} {bytes 
     right-or-wrong h a x f law (recordOf c s j n) p q e
 judges-one {h = h} {k = k} {x = x} {y = y} law (wrong {kind = c} {stamp = s} {class = j} {bytes = n} f p e) (wrong g q e′) =
     let one = replayed-one h law f g x y (recordOf c s j n) p q in
-    (ap (named k) (one .0), one .1)
+    (ap (judgementAt k) (one .0), one .1)
 judges-one law (wrong found q e) (short some few) = absurd (omega arith)
 judges-one law (short some few) ended = absurd (omega arith)
 judges-one law (short some few) (right p judges) = absurd (omega arith)
@@ -65,7 +65,7 @@ toldOf Right = Accepted
 toldOf (Verdict.Refused why class) = TreeRefused why class
 
 -- the promise of judging a whole log
-pub judge-one : (tree : Tree) (first : ℕ) (log : List ℕ) (v w : Judgement) → first < wheel → Judged tree first log v → Judged tree first log w → v ≡ w
+pub judge-one : (tree : Tree) (first : ℕ) (log : List ℕ) (v w : Judgement) → first < wheel → LogJudged tree first log v → LogJudged tree first log w → v ≡ w
 judge-one tree first log v w small (refused {start = x} s) (refused {start = y} t) =
     let same = starts-one tree first _ _ x y s t .0 in
     ap toldOf same

@@ -20,7 +20,7 @@ use Rattle.log.specs.Records.{arrivalKind, departureKind, emptyKind, recordOf, 
 use Rattle.judge.specs.declared.Finding.the-variants.{Holds}
 use Rattle.judge.specs.declared.Judgement.the-variants as judgement
 use borrow.Author.Tests.{eq-eqb}
-use Rattle.judge.specs.Judging.{isThat, sameOr, departureFinding, emptyFinding, ArrivalReplayed, DepartureReplayed, Judges, ended, right, wrong, short, Judged, refused, replayed}
+use Rattle.judge.specs.Judging.{isThat, sameOr, departureFinding, emptyFinding, ArrivalReplayed, DepartureReplayed, Judges, ended, right, wrong, short, LogJudged, refused, replayed}
 use Rattle.judge.specs.Theorems.{Logs, started, arrived, departed, OwnLogAccepted, InParts}
 use Rattle.judge.proofs.Parts.{parts-judged}
 
@@ -80,7 +80,7 @@ own-next {log = log} {entry = entry} {h = h} {next = next} whole judges own =
     }
 
 own : {tree : Tree} {first : ℕ} {log m l : List ℕ} {h : History} → Logs tree first log m l h → Own tree first log h
-own (started small first) = record { start = first .next; starts = first .starts; records = 0; size = refl; judges = ended }
+own (started first) = record { start = first .next; starts = first .starts; records = 0; size = refl; judges = ended }
 own (arrived {stamp = s} {class = j} {bytes = n} {answer = a} logs next) = own-next (whole-arrival s j n a) (λ k. arrival-own s k j n a (next .arrives)) (own logs)
 own (departed {stamp = s} {answer = a} logs next) = own-next (whole-departure s a) (λ k. departure-own s k a (next .departs)) (own logs)
 

@@ -14,7 +14,7 @@ use Rattle.judge.specs.declared.Finding.the-variants.{Holds, Malformed, 
 use Rattle.judge.specs.declared.Judgement.{Judgement}
 use Rattle.judge.specs.declared.Judgement.the-variants.{Accepted}
 use Rattle.judge.specs.declared.Judgement.the-variants as judgement
-use Rattle.judge.specs.Judging.{holds, named, Judges, ended, right, wrong, short, Judged, refused, replayed}
+use Rattle.judge.specs.Judging.{holds, judgementAt, Judges, ended, right, wrong, short, LogJudged, refused, replayed}
 use Rattle.judge.specs.Theorems.{CutAccepted, InParts, PartsAccepted, AcceptedParts, PartsJudged, FirstPartJudged}
 
 abbrev isAccepted : Judgement → Bool
@@ -25,7 +25,7 @@ isAccepted (judgement.Refused k why) = false
 isAccepted (judgement.AnotherChoice k ours) = false
 
 -- a log with a wrong record is not accepted
-pub wrong-named : {A : Type 0} (k : ℕ) (f : Finding) → holds f ≡ false → named k f ≡ Accepted → A
+pub wrong-named : {A : Type 0} (k : ℕ) (f : Finding) → holds f ≡ false → judgementAt k f ≡ Accepted → A
 wrong-named k Holds e a = never refl e
 wrong-named k Malformed e a = never refl (sym (ap isAccepted a))
 wrong-named k (Refused why) e a = never refl (sym (ap isAccepted a))
@@ -87,6 +87,6 @@ accepted-parts h k r front rest next size judges = in-parts r front size refl ju
 pub cut-accepted : CutAccepted
 cut-accepted tree first r front rest size judged = cut judged refl
   where
-    cut : {v : Judgement} → Judged tree first (front ++ rest) v → v ≡ Accepted → Judged tree first front Accepted
+    cut : {v : Judgement} → LogJudged tree first (front ++ rest) v → v ≡ Accepted → LogJudged tree first front Accepted
     cut (refused s) e = never refl (sym (ap isAccepted e))
     cut (replayed s judges) e = replayed s (in-parts r front size e judges .first)

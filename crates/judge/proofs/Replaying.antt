@@ -21,7 +21,7 @@ use Rattle.log.specs.declared.Record.the-variants.{Arrived, Departed, FoundEmpt
 use Rattle.judge.specs.declared.Finding.{Finding}
 use Rattle.judge.specs.declared.Finding.the-variants as finding
 use Rattle.judge.proofs.Finding.{the-type}
-use Rattle.judge.specs.Judging.{holds, arrivalFinding, departureFinding, emptyFinding, ArrivalReplayed, DepartureReplayed, Replayed}
+use Rattle.judge.specs.Judging.{holds, arrivalFinding, departureFinding, emptyFinding, ArrivalReplayed, DepartureReplayed, RecordReplayed}
 use Rattle.judge.specs.Promises.{ReplayRight}
 
 module _ {h : History} {m l : List ℕ} {found : Finding} where
@@ -40,7 +40,7 @@ pub malformed-replayed : {h : History} {m l : List ℕ} → Shows m l h → Repl
 malformed-replayed {h = h} shows = record { next = h; replayed = (refl, refl); shows = shows }
 
 -- a lawful history stays lawful
-pub replayed-lawful : (h : History) → Lawful h → (r : Record) (f : Finding) (next : History) → Replayed h r f next → Lawful next
+pub replayed-lawful : (h : History) → Lawful h → (r : Record) (f : Finding) (next : History) → RecordReplayed h r f next → Lawful next
 replayed-lawful h law (Arrived stamp class bytes) f next p = arrives-lawful h law stamp class bytes (p .answer) next (p .arrives)
 replayed-lawful h law (Departed stamp class bytes) f next p = departs-lawful h law stamp (p .answer) next (p .departs)
 replayed-lawful h law (FoundEmpty stamp) f next p = departs-lawful h law stamp (p .answer) next (p .departs)
@@ -53,7 +53,7 @@ module _ (h : History) (law : Lawful h) (f g : Finding) (x y : History) where
       let one = departs-one h law stamp (p .answer) (q .answer) x y (p .departs) (q .departs) in
       (p .finds ∙ ap findingOf (one .0) ∙ sym (q .finds), one .1)
 
-  pub replayed-one : (r : Record) → Replayed h r f x → Replayed h r g y → (f ≡ g) × (x ≡ y)
+  pub replayed-one : (r : Record) → RecordReplayed h r f x → RecordReplayed h r g y → (f ≡ g) × (x ≡ y)
   replayed-one (Arrived stamp class bytes) p q =
       let one = arrives-one h stamp class bytes (p .answer) (q .answer) x y (p .arrives) (q .arrives) in
       (p .finds ∙ ap arrivalFinding (one .0) ∙ sym (q .finds), one .1)

@@ -63,11 +63,11 @@ pub record DepartureReplayed (h : History) (stamp : ℕ) (findingOf : Departure 
   pub finds : finding ≡ findingOf answer
 
 -- "within one record malformed comes before refused, and refused before another choice": a malformed record makes no call, and one that is refused has no answer to compare
-abbrev pub Replayed : History → Record → Finding → History → Type 0
-Replayed h (record-of.Arrived stamp class bytes) finding next = ArrivalReplayed h stamp class bytes finding next
-Replayed h (record-of.Departed stamp class bytes) finding next = DepartureReplayed h stamp (departureFinding class bytes) finding next
-Replayed h (record-of.FoundEmpty stamp) finding next = DepartureReplayed h stamp emptyFinding finding next
-Replayed h record-of.Malformed finding next = (finding ≡ Malformed) × (next ≡ h)
+abbrev pub RecordReplayed : History → Record → Finding → History → Type 0
+RecordReplayed h (record-of.Arrived stamp class bytes) finding next = ArrivalReplayed h stamp class bytes finding next
+RecordReplayed h (record-of.Departed stamp class bytes) finding next = DepartureReplayed h stamp (departureFinding class bytes) finding next
+RecordReplayed h (record-of.FoundEmpty stamp) finding next = DepartureReplayed h stamp emptyFinding finding next
+RecordReplayed h record-of.Malformed finding next = (finding ≡ Malformed) × (next ≡ h)
 
 -- whether the record is right
 abbrev pub holds : Finding → Bool
@@ -77,11 +77,11 @@ holds (Refused why) = false
 holds (Another ours) = false
 
 -- "Otherwise name the first wrong record, and whether it was malformed, refused (with the number), or another choice"
-abbrev pub named : ℕ → Finding → Judgement
-named k Holds = Accepted
-named k Malformed = judgement.Malformed k
-named k (Refused why) = judgement.Refused k why
-named k (Another ours) = AnotherChoice k ours
+abbrev pub judgementAt : ℕ → Finding → Judgement
+judgementAt k Holds = Accepted
+judgementAt k Malformed = judgement.Malformed k
+judgementAt k (Refused why) = judgement.Refused k why
+judgementAt k (Another ours) = AnotherChoice k ours
 
 -- How the records of a log are judged after the history h, and the history then; the first of them has number k. "The log is judged in order, so an earlier fault is named first."
 pub data Judges : History → (k : ℕ) → (log : List ℕ) → Judgement → History → Type 0 where
@@ -89,16 +89,16 @@ pub data Judges : History → (k : ℕ) → (log : List ℕ) → Judgement → H
   ended : {h : History} {k : ℕ} → Judges h k [] Accepted h
   -- a right record: what comes after it decides
   right : {h after next : History} {k kind stamp class bytes : ℕ} {log : List ℕ} {verdict : Judgement}
-      → Replayed h (recordOf kind stamp class bytes) Holds after → Judges after (k + 1) log verdict next → Judges h k (kind ∷ stamp ∷ class ∷ bytes ∷ log) verdict next
+      → RecordReplayed h (recordOf kind stamp class bytes) Holds after → Judges after (k + 1) log verdict next → Judges h k (kind ∷ stamp ∷ class ∷ bytes ∷ log) verdict next
   -- the first wrong record
   wrong : {h next : History} {k kind stamp class bytes : ℕ} {log : List ℕ} (finding : Finding)
-      → Replayed h (recordOf kind stamp class bytes) finding next → holds finding ≡ false → Judges h k (kind ∷ stamp ∷ class ∷ bytes ∷ log) (named k finding) next
+      → RecordReplayed h (recordOf kind stamp class bytes) finding next → holds finding ≡ false → Judges h k (kind ∷ stamp ∷ class ∷ bytes ∷ log) (judgementAt k finding) next
   -- "A list whose length isn't a multiple of four is malformed at its last, short record."
   short : {h : History} {k : ℕ} {log : List ℕ} → 0 < length log → length log < 4 → Judges h k log (judgement.Malformed k) h
 
 -- "replayed from a given tree and first stamp"
-pub data Judged (tree : Tree) (first : ℕ) (log : List ℕ) : Judgement → Type 0 where
+pub data LogJudged (tree : Tree) (first : ℕ) (log : List ℕ) : Judgement → Type 0 where
   -- "A tree that start refuses is answered with that refusal before any record is read."
-  refused : {why : Refusal} {class : ℕ} {start : History} → Starts tree first (Verdict.Refused why class) start → Judged tree first log (TreeRefused why class)
-  -- "Records are numbered from 0"
-  replayed : {start next : History} {verdict : Judgement} → Starts tree first Right start → Judges start 0 log verdict next → Judged tree first log verdict
+  refused : {why : Refusal} {class : ℕ} {start : History} → Starts tree first (Verdict.Refused why class) start → LogJudged tree first log (TreeRefused why class)
+  -- otherwise its records decide, numbered from 0
+  replayed : {start next : History} {verdict : Judgement} → Starts tree first Right start → Judges start 0 log verdict next → LogJudged tree first log verdict

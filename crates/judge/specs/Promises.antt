@@ -7,12 +7,12 @@ use Rattle.log.specs.declared.Record.{Record}
 use Rattle.state.specs.State.{Shows}
 use Rattle.judge.specs.declared.Finding.{Finding}
 use Rattle.judge.specs.declared.Judgement.{Judgement}
-use Rattle.judge.specs.Judging.{Replayed, Judges}
+use Rattle.judge.specs.Judging.{RecordReplayed, Judges}
 
 -- of one record after the history h
 pub record ReplayRight (h : History) (said : Record) (finding : Finding) (m l : List ℕ) : Type 0 where
   pub next : History
-  pub replayed : Replayed h said finding next
+  pub replayed : RecordReplayed h said finding next
   pub shows : Shows m l next
 
 -- of the records of a part of a log after the history h, numbered from 0 within it

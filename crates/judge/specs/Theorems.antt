@@ -1,6 +1,6 @@
 -- What is proved of judging. Each statement stands here under a name; a comment names the law of proofs/ that proves it.
 -- Assumes nothing.
-use Prim.Native.Nat.{ℕ, _+_, _*_, _<_, _^_}
+use Prim.Native.Nat.{ℕ, _+_, _*_}
 use mathlib.Core.Path.{_≡_}
 use mathlib.Core.List.{List, [], _++_}
 use lib.ListN.{length}
@@ -13,11 +13,11 @@ use Rattle.sched.specs.Promises.{StartRight, ArriveRight, DepartRight}
 use Rattle.log.specs.Records.{arrivalEntry, departureEntry, entryNumbers}
 use Rattle.judge.specs.declared.Judgement.{Judgement}
 use Rattle.judge.specs.declared.Judgement.the-variants.{Accepted}
-use Rattle.judge.specs.Judging.{Judges, Judged}
+use Rattle.judge.specs.Judging.{Judges, LogJudged}
 
 -- The log of a run of our own calls: a start that is not refused, and then arrivals and departures, each as its promise says. A call leaves its record, and a refused one none.
 pub data Logs (tree : Tree) (first : ℕ) : (log m l : List ℕ) → History → Type 0 where
-  started : {m l : List ℕ} → first < 2 ^ 32 → (right : StartRight tree first Right m l) → Logs tree first [] m l (right .next)
+  started : {m l : List ℕ} → (right : StartRight tree first Right m l) → Logs tree first [] m l (right .next)
   arrived : {log m l m′ l′ : List ℕ} {h : History} {stamp class bytes : ℕ} {answer : Arrival}
       → Logs tree first log m l h → (right : ArriveRight h stamp class bytes answer m′ l′)
       → Logs tree first (log ++ entryNumbers (arrivalEntry stamp class bytes answer)) m′ l′ (right .next)
@@ -25,14 +25,14 @@ pub data Logs (tree : Tree) (first : ℕ) : (log m l : List ℕ) → History →
       → Logs tree first log m l h → (right : DepartRight h stamp answer m′ l′)
       → Logs tree first (log ++ entryNumbers (departureEntry stamp answer)) m′ l′ (right .next)
 
--- "Accept it exactly if ..": a log of our own calls is accepted: `own-log-accepted`
+-- a log of our own calls is accepted: `own-log-accepted`
 abbrev pub OwnLogAccepted : Type 0
-OwnLogAccepted = (tree : Tree) (first : ℕ) (log m l : List ℕ) (h : History) → Logs tree first log m l h → Judged tree first log Accepted
+OwnLogAccepted = (tree : Tree) (first : ℕ) (log m l : List ℕ) (h : History) → Logs tree first log m l h → LogJudged tree first log Accepted
 
 -- an accepted log cut after any record is accepted: `cut-accepted`
 abbrev pub CutAccepted : Type 0
 CutAccepted =
-    (tree : Tree) (first records : ℕ) (front rest : List ℕ) → length front ≡ 4 * records → Judged tree first (front ++ rest) Accepted → Judged tree first front Accepted
+    (tree : Tree) (first records : ℕ) (front rest : List ℕ) → length front ≡ 4 * records → LogJudged tree first (front ++ rest) Accepted → LogJudged tree first front Accepted
 
 -- A log cut at a record's end, judged in two parts, the second from where the first has come to. It is accepted exactly if both parts are: `parts-accepted` and `accepted-parts`.
 pub record InParts (h : History) (k records : ℕ) (front rest : List ℕ) (verdict : Judgement) (next : History) : Type 0 where

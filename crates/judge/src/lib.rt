@@ -6,7 +6,7 @@ ghost use lib.ListN.{length, getD};
 ghost use Rattle.log.specs.Records.{recordOf};
 ghost use Rattle.state.specs.State.{Reached};
 ghost use Rattle.state.specs.Heads.{EveryHistory};
-ghost use Rattle.judge.specs.Judging.{arrivalFinding, departureFinding, emptyFinding, named, Judged};
+ghost use Rattle.judge.specs.Judging.{arrivalFinding, departureFinding, emptyFinding, judgementAt, LogJudged};
 ghost use Rattle.judge.specs.Promises.{ReplayRight, PartRight};
 use log::Record;
 use rules::Arrival;
@@ -38,7 +38,7 @@ pub enum Judgement {
 
 // Judges a whole log, replayed from the tree with that first stamp.
 pub fn judge(tree: Tree, first: u32, log: &[u32]) -> Judgement
-    ensures { λ r. ⌜ Judged tree first (now (log .entry)) r ⌝ }
+    ensures { λ r. ⌜ LogJudged tree first (now (log .entry)) r ⌝ }
 {
     let mut words = [0u64; CELLS];
     let mut lengths = [0u16; PLACES];
@@ -144,7 +144,7 @@ fn of_empty(answer: Departure) -> Finding
 
 // The judgement on a log whose first wrong record is that one.
 pub fn name(record: u64, finding: Finding) -> Judgement
-    ensures { λ r. ⌜ r ≡ named «record» finding ⌝ }
+    ensures { λ r. ⌜ r ≡ judgementAt «record» finding ⌝ }
 {
     match finding {
         Finding::Holds => Judgement::Accepted,

@@ -10,12 +10,12 @@ use Rattle.tree.specs.declared.Verdict.the-variants.{Right}
 use Rattle.file.specs.Format.{ReadsAs}
 use Rattle.judge.specs.declared.Judgement.{Judgement}
 use Rattle.judge.specs.declared.Judgement.the-variants.{TreeRefused}
-use Rattle.judge.specs.Judging.{Judged}
-use Rattle.judgefile.specs.Promises.{FileJudged, unread, read}
+use Rattle.judge.specs.Judging.{LogJudged}
+use Rattle.judgefile.specs.Promises.{LogJudgedByFile, unread, read}
 
 module _ {file : List ℕ} {first : ℕ} {log : List ℕ} (verdict : Verdict) (tree : Tree) (reads : ReadsAs file verdict tree) where
-  pub file-refused : {why : Refusal} {class : ℕ} → verdict ≡ Verdict.Refused why class → FileJudged file first log (TreeRefused why class)
+  pub file-refused : {why : Refusal} {class : ℕ} → verdict ≡ Verdict.Refused why class → LogJudgedByFile file first log (TreeRefused why class)
   file-refused e = unread {tree = tree} (subst (λ (v : Verdict). ReadsAs file v tree) e reads)
 
-  pub file-judged : {judgement : Judgement} → verdict ≡ Right → Judged tree first log judgement → FileJudged file first log judgement
+  pub file-judged : {judgement : Judgement} → verdict ≡ Right → LogJudged tree first log judgement → LogJudgedByFile file first log judgement
   file-judged e judged = read {tree = tree} (subst (λ (v : Verdict). ReadsAs file v tree) e reads) judged

@@ -11,16 +11,16 @@ use Rattle.file.specs.Format.{ReadsAs}
 use Rattle.file.proofs.ReadOne.{read-one}
 use Rattle.rules.specs.Limits.{wheel}
 use Rattle.judge.specs.declared.Judgement.{Judgement}
-use Rattle.judge.specs.Judging.{Judged}
+use Rattle.judge.specs.Judging.{LogJudged}
 use Rattle.judge.proofs.One.{judge-one, clash, toldOf}
-use Rattle.judgefile.specs.Promises.{FileJudged, unread, read, judgementNumber, judgementNumbers, JudgeTold}
+use Rattle.judgefile.specs.Promises.{LogJudgedByFile, unread, read, judgementNumber, judgementNumbers, JudgeTold}
 
 -- what a file reads as, taken together
 reading : Verdict → Tree → Reading
 reading v t = record { verdict = v; tree = t }
 
 module _ (file : List ℕ) (first : ℕ) (log : List ℕ) (small : first < wheel) where
-  file-judged-one : (v w : Judgement) → FileJudged file first log v → FileJudged file first log w → v ≡ w
+  file-judged-one : (v w : Judgement) → LogJudgedByFile file first log v → LogJudgedByFile file first log w → v ≡ w
   unfolding reading
   file-judged-one v w (unread {tree = t} p) (unread {tree = u} q) =
       ap (λ (r : Reading). toldOf (r .verdict)) (read-one file (reading _ t) (reading _ u) p q)
@@ -30,7 +30,7 @@ module _ (file : List ℕ) (first : ℕ) (log : List ℕ) (small : first < wheel
       clash (ap (λ (r : Reading). r .verdict) (read-one file (reading _ u) (reading Right t) q p))
   file-judged-one v w (read {tree = t} p judged) (read {tree = u} q judged′) =
       let same = ap (λ (r : Reading). r .tree) (read-one file (reading Right t) (reading Right u) p q) in
-      judge-one u first log v w small (subst (λ (x : Tree). Judged x first log v) same judged) judged′
+      judge-one u first log v w small (subst (λ (x : Tree). LogJudged x first log v) same judged) judged′
 
   pub judge-told-one : (said said′ : ℕ) (out out′ : List ℕ) → JudgeTold file first log said out → JudgeTold file first log said′ out′ → (said ≡ said′) × (out ≡ out′)
   judge-told-one said said′ out out′ p q =

@@ -14,12 +14,12 @@ use Rattle.rules.specs.declared.Departure.{Departure}
 use Rattle.rules.specs.declared.Departure.the-variants.{Leaves, NoneWaits}
 use Rattle.judge.specs.declared.Judgement.{Judgement}
 use Rattle.judge.specs.declared.Judgement.the-variants.{Accepted, TreeRefused, Malformed, Refused, AnotherChoice}
-use Rattle.judge.specs.Judging.{Judged}
+use Rattle.judge.specs.Judging.{LogJudged}
 
 -- a refused file is told as a refused tree, "before any record is read"
-pub data FileJudged (file : List ℕ) (first : ℕ) (log : List ℕ) : Judgement → Type 0 where
-  unread : {why : Refusal} {class : ℕ} {tree : Tree} → ReadsAs file (Verdict.Refused why class) tree → FileJudged file first log (TreeRefused why class)
-  read : {tree : Tree} {judgement : Judgement} → ReadsAs file Right tree → Judged tree first log judgement → FileJudged file first log judgement
+pub data LogJudgedByFile (file : List ℕ) (first : ℕ) (log : List ℕ) : Judgement → Type 0 where
+  unread : {why : Refusal} {class : ℕ} {tree : Tree} → ReadsAs file (Verdict.Refused why class) tree → LogJudgedByFile file first log (TreeRefused why class)
+  read : {tree : Tree} {judgement : Judgement} → ReadsAs file Right tree → LogJudged tree first log judgement → LogJudgedByFile file first log judgement
 
 -- what the call answers
 abbrev pub judgementNumber : Judgement → ℕ
@@ -45,6 +45,6 @@ judgementNumbers (AnotherChoice k ours) = oursNumbers k ours
 
 pub record JudgeTold (file : List ℕ) (first : ℕ) (log : List ℕ) (said : ℕ) (out : List ℕ) : Type 0 where
   pub answer : Judgement
-  pub right : FileJudged file first log answer
+  pub right : LogJudgedByFile file first log answer
   pub number : said ≡ judgementNumber answer
   pub written : out ≡ judgementNumbers answer

@@ -1,6 +1,6 @@
 // A log judged over a class-tree file, and the judgement as numbers: for hosts in C.
 ghost use mathlib.Core.Path.{_≡_};
-ghost use Rattle.judgefile.specs.Promises.{FileJudged, judgementNumber, judgementNumbers, oursNumbers, JudgeTold};
+ghost use Rattle.judgefile.specs.Promises.{LogJudgedByFile, judgementNumber, judgementNumbers, oursNumbers, JudgeTold};
 use judge::Judgement;
 use rules::Departure;
 use tree::Verdict;
@@ -17,7 +17,7 @@ pub fn judge_file(file: &[u8], first: u32, log: &[u32], out: &mut [u64; 4]) -> u
 
 // A refused file is told as a refused tree.
 fn judged(file: &[u8], first: u32, log: &[u32]) -> Judgement
-    ensures { λ r. ⌜ FileJudged (now (file .entry)) first (now (log .entry)) r ⌝ }
+    ensures { λ r. ⌜ LogJudgedByFile (now (file .entry)) first (now (log .entry)) r ⌝ }
 {
     let reading = file::reader::read(file);
     let verdict = reading.verdict;

@@ -14,7 +14,7 @@ use Rattle.judge.specs.declared.Finding.{Finding}
 use Rattle.judge.specs.declared.Finding.the-variants as finding
 use Rattle.judge.specs.declared.Judgement.{Judgement}
 use Rattle.judge.specs.declared.Judgement.the-variants.{Accepted, Malformed}
-use Rattle.judge.specs.Judging.{Replayed, holds, named, Judges, ended, right, wrong, short}
+use Rattle.judge.specs.Judging.{RecordReplayed, holds, judgementAt, Judges, ended, right, wrong, short}
 use Rattle.judge.proofs.Parts.{parts-judged, first-part-judged, wrong-named}
 use Rattle.logtext.specs.declared.Scan.{Scan}
 use Rattle.logtext.specs.declared.Seen.{Seen}
@@ -28,7 +28,7 @@ use Rattle.judgetext.specs.declared.Standing.{Standing}
 use Rattle.judgetext.specs.declared.Standing.the-variants.{Right, Wrong, NotANumber}
 use Rattle.judgetext.specs.declared.Progress.{Progress}
 use Rattle.judgetext.specs.Texts as texts
-use Rattle.judgetext.specs.Texts.{beforeLog, isRight, heldNumbers, moved, holding, oneMore, completed, wrongAt, stuck, TakesTo, ReadsSeen, Follows, wholeOr, judgementOf}
+use Rattle.judgetext.specs.Texts.{beforeLog, isRight, heldNumbers, moved, holding, oneMore, completed, wrongAt, stuck, TakesTo, ReadsSeen, TextFollows, wholeOr, judgementOf}
 use Rattle.judgetext.specs.Theorems.{UpTo, Means, TextJudged}
 use Rattle.judgetext.proofs.Turns.{over-stays}
 
@@ -127,7 +127,7 @@ module _ {h now : History} {front : List ℕ} {at : Progress} (o : Sofar h front
       numbers-whole : numbersOf beforeText on ≡ o .whole ++ last
       numbers-whole = numbers-on (seen.Ended n) e ∙ ap (λ (x : Held). o .whole ++ (heldNumbers x ++ (n ∷ []))) held
 
-      on-right : (next : History) → length on < 2 ^ 64 → Replayed now (recordOf kind stamp class n) finding.Holds next → Sofar h on (completed (moved at b) finding.Holds) next
+      on-right : (next : History) → length on < 2 ^ 64 → RecordReplayed now (recordOf kind stamp class n) finding.Holds next → Sofar h on (completed (moved at b) finding.Holds) next
       on-right next small replayed =
           let one : oneMore (at .records) ≡ at .records + 1 = omega (arith, o .few, longer-by-one) in
           let judged : Judges now (0 + at .records) last Accepted next = right {after = next} {kind = kind} {stamp = stamp} {class = class} {bytes = n} replayed ended in
@@ -142,15 +142,15 @@ module _ {h now : History} {front : List ℕ} {at : Progress} (o : Sofar h front
             few = omega (arith, o .few, longer-by-one, one);
           }
 
-      on-wrong : (next : History) (f : Finding) → Replayed now (recordOf kind stamp class n) f next → holds f ≡ false → (rest : List ℕ)
-          → Judges h 0 (numbersOf beforeText (on ++ rest)) (named (at .records) f) next
+      on-wrong : (next : History) (f : Finding) → RecordReplayed now (recordOf kind stamp class n) f next → holds f ≡ false → (rest : List ℕ)
+          → Judges h 0 (numbersOf beforeText (on ++ rest)) (judgementAt (at .records) f) next
       on-wrong next f replayed bad rest =
-          let judged : Judges now (at .records) last (named (at .records) f) next = wrong {kind = kind} {stamp = stamp} {class = class} {bytes = n} f replayed bad in
-          let here = parts-judged h 0 (at .records) (o .whole) last (named (at .records) f) next (o .size) (record { between = now; first = o .judges; second = from-zero judged }) in
+          let judged : Judges now (at .records) last (judgementAt (at .records) f) next = wrong {kind = kind} {stamp = stamp} {class = class} {bytes = n} f replayed bad in
+          let here = parts-judged h 0 (at .records) (o .whole) last (judgementAt (at .records) f) next (o .size) (record { between = now; first = o .judges; second = from-zero judged }) in
           let size : length (o .whole ++ last) ≡ 4 * (at .records + 1) = length-append (o .whole) last ∙ omega (arith, o .size) in
           let all = numbersOf (scanOver beforeText on) rest in
-          let longer = first-part-judged h 0 (at .records + 1) (o .whole ++ last) all (named (at .records) f) next size (λ a. wrong-named (at .records) f bad a) here in
-          subst (λ (x : List ℕ). Judges h 0 x (named (at .records) f) next)
+          let longer = first-part-judged h 0 (at .records + 1) (o .whole ++ last) all (judgementAt (at .records) f) next size (λ a. wrong-named (at .records) f bad a) here in
+          subst (λ (x : List ℕ). Judges h 0 x (judgementAt (at .records) f) next)
           (ap (λ (x : List ℕ). x ++ all) (sym numbers-whole) ∙ sym (in-turns beforeText on rest .numbers (well-on (seen.Ended n) e refl)))
           longer
 
@@ -177,11 +177,12 @@ module _ {h : History} where
       let whole = parts-judged h 0 (at .records) (o .whole) (heldNumbers (at .held)) (wholeOr (at .held) (at .records)) now (o .size)
       (record { between = now; first = o .judges; second = from-zero (held-short (at .held) (at .records) now) }) in
       let judged : Judges h 0 (numbersOf beforeText front) (judgementOf at) now = rw (o .numbers, o .stands) whole in
-      means-as h now front at Right (o .stands) (o .well, judged)
+      let counted = ap length (o .numbers) ∙ length-append (o .whole) (heldNumbers (at .held)) ∙ ap (λ (n : ℕ). n + length (heldNumbers (at .held))) (o .size) in
+      means-as h now front at Right (o .stands) (o .well, judged, counted)
 
   -- a byte more, and then what is left: `rest-means` says what that comes to where all is right with the byte too
   module _ {now : History} (front : List ℕ) (at : Progress) (o : Sofar h front at now) (b : ℕ) (rest : List ℕ) (small : length (front ++ (b ∷ rest)) < 2 ^ 64)
-      {mid after : Progress} {between next : History} (follows : Follows between mid rest after next)
+      {mid after : Progress} {between next : History} (follows : TextFollows between mid rest after next)
       (rest-means : Sofar h (more front b) mid between → Means h (more front b ++ rest) (after .standing) after next) where
     apart : more front b ++ rest ≡ front ++ (b ∷ rest)
     apart = append-assoc front (b ∷ []) rest
@@ -193,14 +194,14 @@ module _ {h : History} where
     means-rest p = subst (λ (x : List ℕ). Means h x (after .standing) after next) apart (rest-means p)
 
     means-wrong : (n kind stamp class : ℕ) → seenAt (at .scan) b ≡ seen.Ended n → at .held ≡ Class kind stamp class → (f : Finding)
-        → Replayed now (recordOf kind stamp class n) f between → holds f ≡ false → mid ≡ wrongAt (moved at b) f → Means h (front ++ (b ∷ rest)) (after .standing) after next
+        → RecordReplayed now (recordOf kind stamp class n) f between → holds f ≡ false → mid ≡ wrongAt (moved at b) f → Means h (front ++ (b ∷ rest)) (after .standing) after next
     means-wrong n kind stamp class e held f replayed bad is =
         let same = over-stays rest (ap (λ (x : Progress). isRight (x .standing)) is) follows in
         let at-end = same .0 ∙ is in
-        rw (same .1, at-end) (subst (λ (x : List ℕ). Judges h 0 (numbersOf beforeText x) (named (at .records) f) between) apart (on-wrong o b n e kind stamp class held between f replayed bad rest))
+        rw (same .1, at-end) (subst (λ (x : List ℕ). Judges h 0 (numbersOf beforeText x) (judgementAt (at .records) f) between) apart (on-wrong o b n e kind stamp class held between f replayed bad rest))
 
     completes : (n kind stamp class : ℕ) → seenAt (at .scan) b ≡ seen.Ended n → at .held ≡ Class kind stamp class → (f : Finding)
-        → Replayed now (recordOf kind stamp class n) f between → mid ≡ completed (moved at b) f → Means h (front ++ (b ∷ rest)) (after .standing) after next
+        → RecordReplayed now (recordOf kind stamp class n) f between → mid ≡ completed (moved at b) f → Means h (front ++ (b ∷ rest)) (after .standing) after next
     completes n kind stamp class e held finding.Holds replayed is = means-rest (rw is (on-right o b n e kind stamp class held between small-more replayed))
     completes n kind stamp class e held finding.Malformed replayed is = means-wrong n kind stamp class e held finding.Malformed replayed refl is
     completes n kind stamp class e held (finding.Refused why) replayed is = means-wrong n kind stamp class e held (finding.Refused why) replayed refl is
@@ -237,7 +238,7 @@ module _ {h : History} where
         in
         rw (stuck-here, same .1, p .1) up
 
-  means : {now next : History} {at after : Progress} {rest : List ℕ} (front : List ℕ) → length (front ++ rest) < 2 ^ 64 → Sofar h front at now → Follows now at rest after next
+  means : {now next : History} {at after : Progress} {rest : List ℕ} (front : List ℕ) → length (front ++ rest) < 2 ^ 64 → Sofar h front at now → TextFollows now at rest after next
       → Means h (front ++ rest) (after .standing) after next
   means {now} {at = at} front small o texts.ended = rw (append-nil front) (means-ended front at o)
   means front small o (texts.stopped over) = never (ap isRight (o .stands)) over

@@ -17,7 +17,7 @@ use Rattle.logtext.specs.Scans.{seenAt}
 use Rattle.judgetext.specs.declared.Held.{Held}
 use Rattle.judgetext.specs.declared.Held.the-variants.{Nothing, Kind, Stamp, Class}
 use Rattle.judgetext.specs.declared.Progress.{Progress}
-use Rattle.judgetext.specs.Texts.{moved, completed, TakesTo, ReadsSeen, Follows, ended, stopped, read}
+use Rattle.judgetext.specs.Texts.{moved, completed, TakesTo, ReadsSeen, TextFollows, ended, stopped, read}
 use Rattle.judgetext.specs.Promises.{TextRight}
 use Rattle.judgetext.proofs.Onward.{byte-lawful}
 
@@ -38,15 +38,15 @@ module _ (h : History) (law : Lawful h) (after after′ : Progress) (x y : Histo
   reads-one (seen.Ended n) at b p q = takes-one (at .held) (moved at b) n p q
   reads-one seen.NotANumber at b p q = known-one p q
 
-follows-one : {h x y : History} {at after after′ : Progress} {text : List ℕ} → Lawful h → Follows h at text after x → Follows h at text after′ y → (after ≡ after′) × (x ≡ y)
+follows-one : {h x y : History} {at after after′ : Progress} {text : List ℕ} → Lawful h → TextFollows h at text after x → TextFollows h at text after′ y → (after ≡ after′) × (x ≡ y)
 follows-one law ended ended = (refl, refl)
 follows-one law (stopped over) (stopped over′) = (refl, refl)
 follows-one law (stopped over) (read going reads follows) = never going over
 follows-one law (read going reads follows) (stopped over) = never going over
 follows-one {h = h} {y = y} {at = at} {after′ = after′} law (read {between = s} {mid = m} {b = b} {text = text} going reads follows) (read {between = t} {mid = n} going′ reads′ follows′) =
     let one = reads-one h law m n s t (seenAt (at .scan) b) at b reads reads′ in
-    let same = subst (λ (z : History). Follows z n text after′ y) (sym (one .1)) follows′ in
-    follows-one {y = y} {after′ = after′} (byte-lawful h s law (seenAt (at .scan) b) at b m reads) follows (subst (λ (z : Progress). Follows s z text after′ y) (sym (one .0)) same)
+    let same = subst (λ (z : History). TextFollows z n text after′ y) (sym (one .1)) follows′ in
+    follows-one {y = y} {after′ = after′} (byte-lawful h s law (seenAt (at .scan) b) at b m reads) follows (subst (λ (z : Progress). TextFollows s z text after′ y) (sym (one .0)) same)
 
 pub text-one : (m₀ l₀ : List ℕ) → Reached m₀ l₀ → (at : Progress) (text : List ℕ) (after after′ : Progress) (m m′ l l′ : List ℕ)
     → EveryHistory m₀ l₀ (λ h. TextRight h at text after m l) → EveryHistory m₀ l₀ (λ h. TextRight h at text after′ m′ l′) → (after ≡ after′) × (m ≡ m′) × (l ≡ l′)

@@ -19,7 +19,7 @@ use Rattle.logtext.specs.Scans.{seenAt}
 use Rattle.judgetext.specs.declared.Held.{Held}
 use Rattle.judgetext.specs.declared.Held.the-variants.{Nothing, Kind, Stamp, Class}
 use Rattle.judgetext.specs.declared.Progress.{Progress}
-use Rattle.judgetext.specs.Texts.{isRight, moved, TakesTo, Takes, ReadsSeen, ReadsByte, Follows, ended, stopped, read}
+use Rattle.judgetext.specs.Texts.{isRight, moved, TakesTo, Takes, ReadsSeen, ReadsByte, TextFollows, ended, stopped, read}
 use Rattle.judgetext.specs.Promises.{ByteRight, TextRight}
 
 -- a lawful history stays lawful
@@ -40,7 +40,7 @@ pub record Onward (h : History) (at : Progress) (text : List ℕ) (i : ℕ) (her
   pub now : History
   pub lawful : Lawful now
   pub shows : Shows m l now
-  pub decides : (after : Progress) (next : History) → Follows now here (drop i text) after next → Follows h at text after next
+  pub decides : (after : Progress) (next : History) → TextFollows now here (drop i text) after next → TextFollows h at text after next
 
 pub onward-first : {h : History} {at : Progress} {text m l : List ℕ} → Lawful h → Shows m l h → Onward h at text 0 at m l
 onward-first {h = h} law shows = record { now = h; lawful = law; shows = shows; decides = λ after next f. f }
@@ -64,4 +64,4 @@ module _ {h : History} {at : Progress} {text : List ℕ} {i : ℕ} {here : Progr
   pub onward-ended : i ≡ length text → TextRight h at text here m l
   onward-ended e =
       let none = sym (none-left (drop i text) (omega (arith, length-drop i text))) in
-      record { next = o .now; follows = o .decides here (o .now) (subst (λ (x : List ℕ). Follows (o .now) here x here (o .now)) none ended); shows = o .shows }
+      record { next = o .now; follows = o .decides here (o .now) (subst (λ (x : List ℕ). TextFollows (o .now) here x here (o .now)) none ended); shows = o .shows }

@@ -5,7 +5,7 @@ use mathlib.Core.List.{List}
 use Rattle.rules.specs.Calls.{History}
 use Rattle.state.specs.State.{Shows}
 use Rattle.judgetext.specs.declared.Progress.{Progress}
-use Rattle.judgetext.specs.Texts.{Takes, ReadsByte, Follows}
+use Rattle.judgetext.specs.Texts.{Takes, ReadsByte, TextFollows}
 
 pub record NumberRight (h : History) (at : Progress) (n : ℕ) (after : Progress) (m l : List ℕ) : Type 0 where
   pub next : History
@@ -19,5 +19,5 @@ pub record ByteRight (h : History) (at : Progress) (b : ℕ) (after : Progress) 
 
 pub record TextRight (h : History) (at : Progress) (text : List ℕ) (after : Progress) (m l : List ℕ) : Type 0 where
   pub next : History
-  pub follows : Follows h at text after next
+  pub follows : TextFollows h at text after next
   pub shows : Shows m l next

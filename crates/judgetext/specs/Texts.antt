@@ -11,7 +11,7 @@ use Rattle.judge.specs.declared.Finding.the-variants.{Holds}
 use Rattle.judge.specs.declared.Finding.the-variants as finding
 use Rattle.judge.specs.declared.Judgement.{Judgement}
 use Rattle.judge.specs.declared.Judgement.the-variants.{Accepted, Malformed}
-use Rattle.judge.specs.Judging.{Replayed, named}
+use Rattle.judge.specs.Judging.{RecordReplayed, judgementAt}
 use Rattle.logtext.specs.declared.Seen.{Seen}
 use Rattle.logtext.specs.declared.Seen.the-variants as seen
 use Rattle.logtext.specs.Scans.{beforeText, seenAt, stepped}
@@ -66,7 +66,7 @@ stuck at line = record { scan = at .scan; records = at .records; held = at .held
 -- the last number of a record: it is replayed
 pub record Completes (h : History) (at : Progress) (kind stamp class bytes : ℕ) (after : Progress) (next : History) : Type 0 where
   pub found : Finding
-  pub replayed : Replayed h (recordOf kind stamp class bytes) found next
+  pub replayed : RecordReplayed h (recordOf kind stamp class bytes) found next
   pub stands : after ≡ completed at found
 
 -- a number more, after the history h, behind those of a record that is begun
@@ -89,11 +89,11 @@ abbrev pub ReadsByte : History → Progress → ℕ → Progress → History →
 ReadsByte h at b after next = ReadsSeen h (seenAt (at .scan) b) at b after next
 
 -- more of a text, up to what is wrong in it
-pub data Follows : History → Progress → List ℕ → Progress → History → Type 0 where
-  ended : {h : History} {at : Progress} → Follows h at [] at h
-  stopped : {h : History} {at : Progress} {b : ℕ} {text : List ℕ} → isRight (at .standing) ≡ false → Follows h at (b ∷ text) at h
+pub data TextFollows : History → Progress → List ℕ → Progress → History → Type 0 where
+  ended : {h : History} {at : Progress} → TextFollows h at [] at h
+  stopped : {h : History} {at : Progress} {b : ℕ} {text : List ℕ} → isRight (at .standing) ≡ false → TextFollows h at (b ∷ text) at h
   read : {h between next : History} {at mid after : Progress} {b : ℕ} {text : List ℕ}
-      → isRight (at .standing) ≡ true → ReadsByte h at b mid between → Follows between mid text after next → Follows h at (b ∷ text) after next
+      → isRight (at .standing) ≡ true → ReadsByte h at b mid between → TextFollows between mid text after next → TextFollows h at (b ∷ text) after next
 
 -- what a text is judged as that ends there, where its words are numbers: "A list whose length isn't a multiple of four is malformed at its last, short record."
 abbrev pub wholeOr : Held → ℕ → Judgement
@@ -104,7 +104,7 @@ wholeOr (Class kind stamp class) k = Malformed k
 
 abbrev pub standingAs : Standing → Held → ℕ → Judgement
 standingAs Right held k = wholeOr held k
-standingAs (Wrong f) held k = named k f
+standingAs (Wrong f) held k = judgementAt k f
 standingAs (NotANumber line) held k = wholeOr held k
 
 abbrev pub judgementOf : Progress → Judgement

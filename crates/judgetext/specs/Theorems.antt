@@ -1,6 +1,6 @@
 -- What is proved of a log's text. Each statement stands here under a name; a comment names the law of proofs/ that proves it.
 -- Assumes nothing.
-use Prim.Native.Nat.{ℕ, _<_, _^_}
+use Prim.Native.Nat.{ℕ, _+_, _*_, _<_, _^_}
 use mathlib.Core.Path.{_≡_}
 use mathlib.Core.Bool.{true, false}
 use mathlib.Core.List.{List, _∷_, _++_}
@@ -14,13 +14,13 @@ use Rattle.logtext.specs.Texts.{numbersOf, scanOver, isWell}
 use Rattle.judgetext.specs.declared.Standing.{Standing}
 use Rattle.judgetext.specs.declared.Standing.the-variants.{Right, Wrong, NotANumber}
 use Rattle.judgetext.specs.declared.Progress.{Progress}
-use Rattle.judgetext.specs.Texts.{beforeLog, heldNumbers, Follows, judgementOf}
+use Rattle.judgetext.specs.Texts.{beforeLog, heldNumbers, TextFollows, judgementOf}
 
 -- a text that is read in turns is judged as it would be whole: `follows-turns`
-abbrev pub FollowsTurns : Type 0
-FollowsTurns =
-    (h between next : History) (at mid after : Progress) (front rest : List ℕ) → Follows h at front mid between → Follows between mid rest after next
-    → Follows h at (front ++ rest) after next
+abbrev pub TextTurns : Type 0
+TextTurns =
+    (h between next : History) (at mid after : Progress) (front rest : List ℕ) → TextFollows h at front mid between → TextFollows between mid rest after next
+    → TextFollows h at (front ++ rest) after next
 
 -- A word that is no number, on that line: all before it is well, and every record that is complete before it is right.
 pub record UpTo (h : History) (text : List ℕ) (line : ℕ) (next : History) : Type 0 where
@@ -37,13 +37,16 @@ pub record UpTo (h : History) (text : List ℕ) (line : ℕ) (next : History) : 
   pub short : length begun < 4
   pub judges : Judges h 0 whole Accepted next
 
--- what a text comes to, by how it stands at its end: its numbers are judged as request 4 has it, or a word that is none is named
+-- what a text comes to, by how it stands at its end: its numbers are judged as request 4 has it, and where all is right its records are counted; or a word that is no
+-- number is named
 abbrev pub Means : History → List ℕ → Standing → Progress → History → Type 0
-Means h text Right at next = (isWell beforeText text ≡ true) × Judges h 0 (numbersOf beforeText text) (judgementOf at) next
+Means h text Right at next =
+    (isWell beforeText text ≡ true) × Judges h 0 (numbersOf beforeText text) (judgementOf at) next
+    × (length (numbersOf beforeText text) ≡ 4 * at .records + length (heldNumbers (at .held)))
 Means h text (Wrong found) at next = Judges h 0 (numbersOf beforeText text) (judgementOf at) next
 Means h text (NotANumber line) at next = UpTo h text line next
 
 -- a text judged from its first byte on: `text-judged`
 abbrev pub TextJudged : Type 0
 TextJudged =
-    (h : History) (text : List ℕ) (at : Progress) (next : History) → length text < 2 ^ 64 → Follows h beforeLog text at next → Means h text (at .standing) at next
+    (h : History) (text : List ℕ) (at : Progress) (next : History) → length text < 2 ^ 64 → TextFollows h beforeLog text at next → Means h text (at .standing) at next

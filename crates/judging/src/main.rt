@@ -23,7 +23,7 @@ fn run() -> Status {
     }
     let mut word = io::buffer();
     let n = os::arg(2, &mut word);
-    let operand = wording::only(&word[..n]);
+    let operand = wording::number(&word[..n]);
     let Operand::Of(first) = operand else {
         return console::usage(b"judge: FIRST is not a number of 32 bits\n");
     };

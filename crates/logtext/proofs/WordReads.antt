@@ -16,19 +16,19 @@ use Rattle.logtext.specs.declared.Seen.{Seen}
 use Rattle.logtext.specs.declared.Seen.the-variants.{Nothing, NotANumber}
 use Rattle.logtext.specs.Scans.{kindOf, shown, shownBetween, shownIn, seenAt, longer, between, inNumber, onward, stepped}
 use Rattle.logtext.specs.Texts.{isNoError, numbersOf, isWell}
-use Rattle.logtext.specs.Theorems.{Shows, WordReads}
+use Rattle.logtext.specs.Theorems.{WordShown, WordReads}
 use Rattle.logtext.proofs.WordBytes.{plain-kind, ends-number}
 
 -- a byte that shows nothing yet, one that is an error, and the last
-shows-on : {scan : Scan} {b : ℕ} {s : List ℕ} {seen : Seen} → seenAt scan b ≡ Nothing → Shows (stepped scan b) s seen → Shows scan (b ∷ s) seen
+shows-on : {scan : Scan} {b : ℕ} {s : List ℕ} {seen : Seen} → seenAt scan b ≡ Nothing → WordShown (stepped scan b) s seen → WordShown scan (b ∷ s) seen
 unfolding numbersOf isWell
 shows-on e p = record { numbers = rw e (p .numbers); well = rw e (p .well) }
 
-shows-error : {scan : Scan} {b : ℕ} {s : List ℕ} → seenAt scan b ≡ NotANumber → Shows scan (b ∷ s) NotANumber
+shows-error : {scan : Scan} {b : ℕ} {s : List ℕ} → seenAt scan b ≡ NotANumber → WordShown scan (b ∷ s) NotANumber
 unfolding numbersOf isWell
 shows-error e = record { numbers = rw e; well = rw e }
 
-shows-last : {scan : Scan} {b : ℕ} {seen : Seen} → seenAt scan b ≡ seen → Shows scan (b ∷ []) seen
+shows-last : {scan : Scan} {b : ℕ} {seen : Seen} → seenAt scan b ≡ seen → WordShown scan (b ∷ []) seen
 unfolding numbersOf isWell
 shows-last {seen = seen} e = record { numbers = rw e; well = rw e (and-true (isNoError seen)) }
 
@@ -52,19 +52,19 @@ at-start line = record { shows = λ b h. rw (plain-kind b h) (starts (isDigit b)
 -- a byte of a word, where the word goes on so after a digit
 module _ (line n : ℕ) (scan : Scan) (b : ℕ) (s : List ℕ) (number : Operand) where
   by-digit : (digit : Bool) → seenAt scan b ≡ shownIn n (cond digit (Digit (b - 48)) Other) → stepped scan b ≡ onward line n (cond digit (Digit (b - 48)) Other)
-      → Shows (inNumber line (longer n (b - 48))) s (shown number) → Shows scan (b ∷ s) (shown (onlyIf digit number))
+      → WordShown (inNumber line (longer n (b - 48))) s (shown number) → WordShown scan (b ∷ s) (shown (onlyIf digit number))
   by-digit true e l p = shows-on e (rw l p)
   by-digit false e l p = shows-error e
 
 -- so the word shows the number that its digits make; 2^32 stands for each that is too large
 module _ (line n : ℕ) (scan : Scan) (ready : Ready line n scan) (b : ℕ) (s rest : List ℕ) where
-  byte-reads : isPlain b ≡ true → Shows (inNumber line (longer n (b - 48))) rest (shown (numberFrom (longer n (b - 48)) s)) → Shows scan (b ∷ rest) (shown (numberFrom n (b ∷ s)))
+  byte-reads : isPlain b ≡ true → WordShown (inNumber line (longer n (b - 48))) rest (shown (numberFrom (longer n (b - 48)) s)) → WordShown scan (b ∷ rest) (shown (numberFrom n (b ∷ s)))
   unfolding numberFrom longer
   byte-reads h p =
       by-digit line n scan b rest (numberFrom (10 * n + (b - 48)) s) (isDigit b) (ready .shows b h ∙ rw (plain-kind b h)) (ready .leads b ∙ rw (plain-kind b h))
       (rw (number-capped (10 * n + (b - 48)) s) p)
 
-digits-read : (line end : ℕ) → isPlain end ≡ false → (n : ℕ) (s : List ℕ) → Plain s → Shows (inNumber line n) (s ++ (end ∷ [])) (shown (numberFrom n s))
+digits-read : (line end : ℕ) → isPlain end ≡ false → (n : ℕ) (s : List ℕ) → Plain s → WordShown (inNumber line n) (s ++ (end ∷ [])) (shown (numberFrom n s))
 unfolding numberFrom seenAt
 digits-read line end ends n [] h = shows-last (ends-number end n ends)
 digits-read line end ends n (b ∷ s) h =

@@ -24,7 +24,7 @@ abbrev pub InTurns : Type 0
 InTurns = (scan : Scan) (a b : List ℕ) → InTurn scan a b
 
 -- all that the bytes show is that one number, or that one word that is none
-pub record Shows (scan : Scan) (bytes : List ℕ) (seen : Seen) : Type 0 where
+pub record WordShown (scan : Scan) (bytes : List ℕ) (seen : Seen) : Type 0 where
   pub numbers : numbersOf scan bytes ≡ withSeen seen []
   pub well : isWell scan bytes ≡ isNoError seen
 
@@ -32,7 +32,7 @@ pub record Shows (scan : Scan) (bytes : List ℕ) (seen : Seen) : Type 0 where
 abbrev pub WordReads : Type 0
 WordReads =
     (line : ℕ) (word : List ℕ) (end : ℕ) → Plain word → 0 < length word → isPlain end ≡ false
-    → Shows (between line) (word ++ (end ∷ [])) (shown (numberOf word))
+    → WordShown (between line) (word ++ (end ∷ [])) (shown (numberOf word))
 
 -- the bytes have no error, show those numbers, and lead to that scan
 pub record Reads (scan : Scan) (bytes ns : List ℕ) (after : Scan) : Type 0 where

@@ -1,12 +1,14 @@
 //! `corpus FOLDER [SEED]` writes the stored corpus. Replays: NNN-sort.tree, NNN-sort.calls and NNN-sort.out, what the model prints; no NNN-sort.calls
-//! for a tree to be printed alone. Texts of trees: tNNN-sort.text and tNNN-sort.out, and tNNN-sort.made, the file, where one is written. The same seed
-//! gives the same bytes. `corpus --bursts FOLDER` writes the stored scripts of bursts: NNN-sort.script and NNN-sort.out.
+//! for a tree to be printed alone; NNN-sort.logged, what it prints with --log, for most that have calls. Texts of trees: tNNN-sort.text and tNNN-sort.out,
+//! and tNNN-sort.made, the file, where one is written. Logs to be judged: jNNN-sort.log, jNNN-sort.class-tree, jNNN-sort.first, the first stamp, and
+//! jNNN-sort.out. The same seed gives the same bytes. `corpus --bursts FOLDER` writes the stored scripts of bursts, `corpus --judge FOLDER` those of
+//! logs: NNN-sort.script and NNN-sort.out.
 
-use outside::gen::{corpus, stored_scripts, text_corpus};
+use outside::gen::{corpus, log_corpus, log_scripts, stored_scripts, text_corpus};
 use std::path::Path;
 
 fn usage() -> ! {
-    eprintln!("usage: corpus FOLDER [SEED]\n       corpus --bursts FOLDER");
+    eprintln!("usage: corpus FOLDER [SEED]\n       corpus --bursts FOLDER\n       corpus --judge FOLDER");
     std::process::exit(2)
 }
 
@@ -23,6 +25,9 @@ fn write_replays(folder: &str, seed: u64) {
             put(folder, format!("{name}.calls"), calls);
         }
         put(folder, format!("{name}.out"), case.answer().printed.as_bytes());
+        if let Some(log) = case.log().filter(|_| case.log_is_stored()) {
+            put(folder, format!("{name}.logged"), log.printed.as_bytes());
+        }
     }
 }
 
@@ -38,11 +43,21 @@ fn write_texts(folder: &str) {
     }
 }
 
-fn write_scripts(folder: &str) {
-    for (number, script) in stored_scripts().iter().enumerate() {
-        let name = format!("{number:03}-{}", script.name);
-        put(folder, format!("{name}.script"), script.text().as_bytes());
-        put(folder, format!("{name}.out"), script.answer().as_bytes());
+fn write_logs(folder: &str) {
+    for (number, case) in log_corpus().iter().enumerate() {
+        let name = format!("j{number:03}-{}", case.name);
+        put(folder, format!("{name}.class-tree"), &case.tree_file);
+        put(folder, format!("{name}.first"), format!("{}\n", case.first).as_bytes());
+        put(folder, format!("{name}.log"), &case.text);
+        put(folder, format!("{name}.out"), case.answer().printed.as_bytes());
+    }
+}
+
+/// Scripts and their answers, each with its name.
+fn write_scripts(folder: &str, scripts: impl Iterator<Item = (String, String, String)>) {
+    for (number, (name, script, answer)) in scripts.enumerate() {
+        put(folder, format!("{number:03}-{name}.script"), script.as_bytes());
+        put(folder, format!("{number:03}-{name}.out"), answer.as_bytes());
     }
 }
 
@@ -50,11 +65,13 @@ fn main() {
     let arguments: Vec<String> = std::env::args().skip(1).collect();
     let words: Vec<&str> = arguments.iter().map(String::as_str).collect();
     let (folder, seed) = match words[..] {
-        ["--bursts", folder] => return write_scripts(folder),
+        ["--bursts", folder] => return write_scripts(folder, stored_scripts().iter().map(|script| (script.name.clone(), script.text(), script.answer()))),
+        ["--judge", folder] => return write_scripts(folder, log_scripts().iter().map(|log| (log.name.clone(), log.script(), log.answer()))),
         [folder] if !folder.starts_with("--") => (folder, 1),
-        [folder, seed] => (folder, seed.parse().unwrap_or_else(|_| usage())),
+        [folder, seed] if !folder.starts_with("--") => (folder, seed.parse().unwrap_or_else(|_| usage())),
         _ => usage(),
     };
     write_replays(folder, seed);
     write_texts(folder);
+    write_logs(folder);
 }

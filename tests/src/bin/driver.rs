@@ -1,14 +1,17 @@
-//! `driver [REPLAY] [--maketree MAKETREE] [--bursts PROGRAM] [--seed S] [--runs N] [--calls N] [--tree]`
+//! `driver [REPLAY] [--maketree MAKETREE] [--judge JUDGE] [--bursts PROGRAM] [--judge-c PROGRAM] [--seed S] [--runs N] [--calls N] [--tree]`
 //! takes the cases told by hand and at the edge of each rule, on trees and on lines, then N cases from seed S on, runs the program REPLAY on each with
 //! TREE and CALLS, or TREE alone where a case has no calls, and compares what it prints, line by line, and its exit status with the model. With --tree it also compares what REPLAY prints for
 //! TREE alone. With --maketree it then does the same for texts of trees: what MAKETREE answers and which file it makes, text to file to text, file to text
-//! to file, and that a file that is there stays. With --bursts it gives PROGRAM, which is `bursts.c`, scripts: files of all sorts and lengths in bursts, each
-//! cut in two ways; REPLAY may then be left out. At the first difference it keeps the files, says where, and ends with status 1.
+//! to file, and that a file that is there stays. With --judge it compares the log that REPLAY prints of each case, which JUDGE must accept, and then what
+//! JUDGE says of logs that are damaged, in all spellings. With --bursts it gives PROGRAM, which is `bursts.c`, scripts: files of all sorts and lengths in
+//! bursts, each cut in two ways; with --judge-c it gives logs to PROGRAM, which is `judge.c`. REPLAY may be left out where only these two are given. At the
+//! first difference it keeps the files, says where, and ends with status 1.
 
-use outside::calls::show_tree;
+use outside::calls::{first_stamp, show_tree};
 use outside::file::{file_of, read, Order};
 use outside::gen::{
-    by_hand, case, edges, longs, more_by_hand, more_texts, random_tree, script, scripts_by_hand, sort_of_answer, text_case, text_corpus, texts, Case, Dice, Script, TextCase,
+    by_hand, case, edges, log, log_case, logs_by_hand, longs, more_by_hand, more_texts, random_tree, script, scripts_by_hand, sort_of_answer, text_case, text_corpus, texts,
+    Case, Dice, Log, LogCase, Script, TextCase,
 };
 use outside::lines::Answer;
 use std::collections::BTreeMap;
@@ -20,7 +23,9 @@ use std::process::{exit, Command};
 struct Options {
     replay: Option<String>,
     maketree: Option<String>,
+    judge: Option<String>,
     bursts: Option<String>,
+    judge_c: Option<String>,
     seed: u64,
     runs: u64,
     calls: usize,
@@ -34,14 +39,14 @@ impl Options {
 }
 
 fn usage() -> ! {
-    eprintln!("usage: driver [REPLAY] [--maketree MAKETREE] [--bursts PROGRAM] [--seed S] [--runs N] [--calls N] [--tree]");
+    eprintln!("usage: driver [REPLAY] [--maketree MAKETREE] [--judge JUDGE] [--bursts PROGRAM] [--judge-c PROGRAM] [--seed S] [--runs N] [--calls N] [--tree]");
     exit(2)
 }
 
 fn options() -> Options {
     let mut arguments = std::env::args().skip(1).peekable();
     let replay = arguments.next_if(|first| !first.starts_with("--"));
-    let mut options = Options { replay, maketree: None, bursts: None, seed: 1, runs: 100, calls: 120, tree: false };
+    let mut options = Options { replay, maketree: None, judge: None, bursts: None, judge_c: None, seed: 1, runs: 100, calls: 120, tree: false };
     while let Some(option) = arguments.next() {
         if option == "--tree" {
             options.tree = true;
@@ -51,14 +56,17 @@ fn options() -> Options {
         let number = || value.parse::<u64>().unwrap_or_else(|_| usage());
         match option.as_str() {
             "--maketree" => options.maketree = Some(value),
+            "--judge" => options.judge = Some(value),
             "--bursts" => options.bursts = Some(value),
+            "--judge-c" => options.judge_c = Some(value),
             "--seed" => options.seed = number(),
             "--runs" => options.runs = number(),
             "--calls" => options.calls = number() as usize,
             _ => usage(),
         }
     }
-    if options.replay.is_none() && (options.bursts.is_none() || options.maketree.is_some()) {
+    let needs_replay = options.maketree.is_some() || options.judge.is_some() || (options.bursts.is_none() && options.judge_c.is_none());
+    if options.replay.is_none() && needs_replay {
         usage()
     }
     options
@@ -70,7 +78,7 @@ struct Ran {
     said: String,
 }
 
-/// Run a program on these files; the shell splits the command line as it was given.
+/// Run a program on these files, or words; the shell splits the command line as it was given.
 fn run(program: &str, files: &[&Path]) -> Ran {
     let ran = Command::new("sh").arg("-c").arg(format!("{program} \"$@\"")).arg("sh").args(files).output();
     let ran = ran.unwrap_or_else(|fault| {
@@ -211,21 +219,59 @@ fn check_file(replay: &str, maketree: &str, room: &Room, seed: u64) {
     assert_eq!(read(&fs::read(made).expect("it was compared")), Ok(tree));
 }
 
+/// The log of a case's run, which must be accepted; answers what the model printed, where there are calls.
+fn check_log_of_run(replay: &str, judge: &str, room: &Room, case: &Case) -> Option<String> {
+    let (calls, expected) = (case.calls.as_ref()?, case.log()?);
+    let (tree, calls_file) = (room.put("tree", &case.tree_file), room.put("calls", calls));
+    let ran = run(&format!("{replay} --log"), &[&tree, &calls_file]);
+    room.compare(&format!("{}, its log", case.name), &expected, &ran);
+    let (0, Some(first)) = (expected.status, first_stamp(calls)) else { return Some(expected.printed) };
+    let log = room.put("log", ran.answer.printed.as_bytes());
+    let accepted = Answer::done(format!("accepted {} records\n", ran.answer.printed.lines().count()));
+    room.compare(&format!("{}, its log judged", case.name), &accepted, &run(judge, &[&tree, Path::new(&first.to_string()), &log]));
+    Some(expected.printed + &accepted.printed)
+}
+
+/// What is said of a log; answers what the model printed.
+fn check_log(judge: &str, room: &Room, case: &LogCase) -> String {
+    let (tree, log) = (room.put("tree", &case.tree_file), room.put("log", &case.text));
+    let expected = case.answer();
+    room.compare(&case.name, &expected, &run(judge, &[&tree, Path::new(&case.first.to_string()), &log]));
+    expected.printed
+}
+
+/// A script for a program in C, and what it must print.
+struct InC {
+    name: String,
+    script: String,
+    answer: String,
+}
+
+impl From<Script> for InC {
+    fn from(script: Script) -> InC {
+        InC { script: script.text(), answer: script.answer(), name: script.name }
+    }
+}
+
+impl From<Log> for InC {
+    fn from(log: Log) -> InC {
+        InC { script: log.script(), answer: log.answer(), name: log.name }
+    }
+}
+
 /// Scripts one after another in one run of the program, since it may be under an emulator, which starts slowly. Answers what the model printed.
-fn check_scripts(program: &str, room: &Room, scripts: &[Script]) -> String {
-    let script = room.put("script", scripts.iter().map(Script::text).collect::<String>().as_bytes());
+fn check_scripts(program: &str, room: &Room, scripts: &[InC]) -> String {
+    let script = room.put("script", scripts.iter().map(|one| one.script.as_str()).collect::<String>().as_bytes());
     let ran = run(&format!("{program} <"), &[&script]);
     let mut rest = ran.answer.printed.split_inclusive('\n');
-    let mut all = String::new();
-    for script in scripts {
-        let printed: String = rest.by_ref().take(script.steps.len()).collect();
-        let expected = script.answer();
-        if expected != printed {
-            room.put("script", script.text().as_bytes());
+    for one in scripts {
+        let printed: String = rest.by_ref().take(one.answer.lines().count()).collect();
+        if one.answer != printed {
+            room.put("script", one.script.as_bytes());
         }
-        room.compare(&script.name, &Answer::done(expected.clone()), &Ran { answer: Answer::done(printed), said: ran.said.clone() });
-        all += &expected;
+        room.compare(&one.name, &Answer::done(one.answer.clone()), &Ran { answer: Answer::done(printed), said: ran.said.clone() });
     }
+    let all: String = scripts.iter().map(|one| one.answer.as_str()).collect();
     room.compare("scripts", &Answer::done(all.clone()), &ran);
     all
 }
@@ -244,6 +290,24 @@ fn seeded_text(seed: u64) -> TextCase {
 fn seeded_script(seed: u64) -> Script {
     let script = script(seed);
     Script { name: format!("seed {seed}, bursts of a {} file", script.name), ..script }
+}
+
+/// The logs of a seed, as text and as numbers.
+const LOGS: u64 = 4;
+
+fn seeds_of_logs(options: &Options) -> Range<u64> {
+    let Range { start, end } = options.seeds();
+    LOGS * start..LOGS * end
+}
+
+fn seeded_log_case(options: &Options, seed: u64) -> LogCase {
+    let case = log_case(seed, options.calls);
+    LogCase { name: format!("log {seed} (seed {}), {}", seed / LOGS, case.name), ..case }
+}
+
+fn seeded_log(options: &Options, seed: u64) -> Log {
+    let log = log(seed, options.calls);
+    Log { name: format!("log {seed} (seed {}), {}", seed / LOGS, log.name), ..log }
 }
 
 /// How often each sort of line was seen.
@@ -269,13 +333,35 @@ impl Seen {
     }
 }
 
-fn replays(options: &Options, replay: &str, room: &Room) {
+/// The cases told by hand, and those of the seeds.
+fn cases(options: &Options) -> impl Iterator<Item = Case> + '_ {
     let told = by_hand().into_iter().chain(more_by_hand()).chain(edges()).chain(texts()).chain(more_texts()).chain(longs());
+    told.chain(options.seeds().map(|seed| seeded(options, seed)))
+}
+
+fn replays(options: &Options, replay: &str, room: &Room) {
     let mut seen = Seen::default();
-    for case in told.chain(options.seeds().map(|seed| seeded(options, seed))) {
+    for case in cases(options) {
         seen.add(&check(options, replay, room, &case), 1);
     }
     seen.print("cases", options.runs);
+}
+
+/// The logs of runs, those of few trees at the edge of each rule among them, and then logs that may be damaged.
+fn logs(options: &Options, replay: &str, judge: &str, room: &Room) {
+    let mut seen = Seen::default();
+    for case in cases(options).filter(Case::log_is_stored) {
+        if let Some(printed) = check_log_of_run(replay, judge, room, &case) {
+            seen.add(&printed, 1);
+        }
+    }
+    seen.print("logs of runs", options.runs);
+    let mut seen = Seen::default();
+    let seeded = seeds_of_logs(options).map(|seed| seeded_log_case(options, seed));
+    for case in logs_by_hand().into_iter().chain(seeded) {
+        seen.add(&check_log(judge, room, &case), 1);
+    }
+    seen.print("judged logs", LOGS * options.runs);
 }
 
 fn texts_of_trees(options: &Options, replay: &str, maketree: &str, room: &Room) {
@@ -293,14 +379,26 @@ fn texts_of_trees(options: &Options, replay: &str, maketree: &str, room: &Room) 
 /// The scripts that are given to one run of the program, at most.
 const SCRIPTS: usize = 50;
 
-fn bursts(options: &Options, program: &str, room: &Room) {
+/// Scripts of one sort, so many of them seeded.
+fn in_c(program: &str, room: &Room, what: &str, scripts: impl Iterator<Item = InC>, seeded: u64) {
     let mut seen = Seen::default();
-    let mut scripts = scripts_by_hand().into_iter().chain(options.seeds().map(seeded_script)).peekable();
+    let mut scripts = scripts.peekable();
     while scripts.peek().is_some() {
-        let some: Vec<Script> = scripts.by_ref().take(SCRIPTS).collect();
+        let some: Vec<InC> = scripts.by_ref().take(SCRIPTS).collect();
         seen.add(&check_scripts(program, room, &some), some.len());
     }
-    seen.print("scripts of bursts", options.runs);
+    seen.print(what, seeded);
+}
+
+fn bursts(options: &Options, program: &str, room: &Room) {
+    let scripts = scripts_by_hand().into_iter().chain(options.seeds().map(seeded_script));
+    in_c(program, room, "scripts of bursts", scripts.map(InC::from), options.runs);
+}
+
+fn logs_in_c(options: &Options, program: &str, room: &Room) {
+    let told = logs_by_hand().into_iter().filter_map(|case| case.as_numbers());
+    let seeded = seeds_of_logs(options).map(|seed| seeded_log(options, seed));
+    in_c(program, room, "logs judged in C", told.chain(seeded).map(InC::from), LOGS * options.runs);
 }
 
 fn main() {
@@ -312,8 +410,14 @@ fn main() {
     if let (Some(replay), Some(maketree)) = (&options.replay, &options.maketree) {
         texts_of_trees(&options, replay, maketree, &room);
     }
+    if let (Some(replay), Some(judge)) = (&options.replay, &options.judge) {
+        logs(&options, replay, judge, &room);
+    }
     if let Some(program) = &options.bursts {
         bursts(&options, program, &room);
+    }
+    if let Some(program) = &options.judge_c {
+        logs_in_c(&options, program, &room);
     }
     fs::remove_dir_all(&room.folder).expect("remove the temporary folder");
 }

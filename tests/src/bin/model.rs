@@ -1,8 +1,9 @@
-//! The model in the programs' place: `model replay TREE [CALLS]` and `model maketree TEXT TREE` print what the programs must print, and end with their
-//! status. Both messages and files are as docs/FORMS.md has them.
+//! The model in the programs' place: `model replay TREE [CALLS]`, `model replay --log TREE CALLS`, `model maketree TEXT TREE` and
+//! `model judge TREE FIRST LOG` print what the programs must print, and end with their status. Both messages and files are as docs/FORMS.md has them.
 
 use outside::calls::{replay, show_tree};
-use outside::lines::Answer;
+use outside::lines::{word_as_number, Answer};
+use outside::logtext::{judge_text, replay_log};
 use outside::text::{maketree, TEXT_TOP};
 use std::fs::{self, File};
 use std::io::{self, Write};
@@ -12,23 +13,34 @@ fn main() {
     let arguments: Vec<String> = std::env::args().skip(1).collect();
     let words: Vec<&str> = arguments.iter().map(String::as_str).collect();
     match words[..] {
-        ["replay", tree] => end(show_tree(&read(tree))),
-        ["replay", tree, calls] => replay_files(tree, calls),
+        ["replay", "--log", tree, calls] => over_tree(tree, calls, replay_log),
+        ["replay", tree] if tree != "--log" => end(show_tree(&read(tree))),
+        ["replay", tree, calls] if tree != "--log" => over_tree(tree, calls, replay),
         ["maketree", text, tree] => make(text, tree),
+        ["judge", tree, first, log] => judge(tree, first, log),
         _ => {
-            eprintln!("usage: model replay TREE [CALLS]\n       model maketree TEXT TREE");
+            eprintln!("usage: model replay TREE [CALLS]\n       model replay --log TREE CALLS\n       model maketree TEXT TREE\n       model judge TREE FIRST LOG");
             exit(2)
         }
     }
 }
 
-/// The tree is read and judged before the calls are opened.
-fn replay_files(tree: &str, calls: &str) {
+/// The tree is read and judged before the other file is opened.
+fn over_tree(tree: &str, file: &str, answer: impl Fn(&[u8], &[u8]) -> Answer) {
     let tree_file = read(tree);
     if show_tree(&tree_file).status == 0 {
-        end(replay(&tree_file, &read(calls)));
+        end(answer(&tree_file, &read(file)));
     }
     end(show_tree(&tree_file));
+}
+
+/// The first stamp is looked at before the tree file.
+fn judge(tree: &str, first: &str, log: &str) {
+    let Some(first) = word_as_number(first.as_bytes()) else {
+        eprintln!("judge: FIRST is not a number of 32 bits");
+        exit(2)
+    };
+    over_tree(tree, log, |tree_file, text| judge_text(tree_file, first, text));
 }
 
 /// The text is read and judged first. The file is written beside, and takes its name where that is free; else nothing is left of it.

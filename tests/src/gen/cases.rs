@@ -10,6 +10,7 @@ use crate::calls::{replay, show_tree};
 use crate::curves::Curve;
 use crate::file::{file_of, Order};
 use crate::lines::Answer;
+use crate::logtext::replay_log;
 use crate::tree::{Class, Tree};
 use std::borrow::Borrow;
 
@@ -31,6 +32,16 @@ impl Case {
             Some(calls) => replay(&self.tree_file, calls),
             None => show_tree(&self.tree_file),
         }
+    }
+
+    /// What the model answers to `replay --log`, where there are calls.
+    pub fn log(&self) -> Option<Answer> {
+        self.calls.as_ref().map(|calls| replay_log(&self.tree_file, calls))
+    }
+
+    /// Whether its log is stored too, where there are calls. Of the trees at the edge of each rule few are.
+    pub fn log_is_stored(&self) -> bool {
+        !self.name.starts_with("edge-") || ["edge-right", "edge-classes-64", "edge-share-1-0"].contains(&self.name.as_str())
     }
 }
 
@@ -308,7 +319,12 @@ pub fn sort_of_answer(line: &str) -> String {
     let words: Vec<&str> = line.split(' ').collect();
     match words[..] {
         ["refused", number, "class", _] => format!("tree refused {number}"),
-        ["refused", _] | ["none", "waits"] => line.to_string(),
+        ["refused", _] | ["none", "waits"] | ["our", "rules:", "none", "waits"] => line.to_string(),
+        ["our", "rules:", "packet", ..] => "our rules: packet".to_string(),
+        ["accepted", _, "records"] => "accepted records".to_string(),
+        ["record", _, ref why @ ..] => format!("record {}", why.join(" ")),
+        [kind @ ("1" | "2" | "3"), _, _, _] => format!("log record of kind {kind}"),
+        ["judge", answer, ..] => format!("judge {answer}"),
         [step @ ("end" | "start"), number, "class", ..] => format!("{step} {number}"),
         ["packet", .., "rule", "fair"] => "fair without curve".to_string(),
         ["packet", .., "rule", rule, "eligible", _, "deadline", _] => rule.to_string(),

@@ -188,6 +188,32 @@ fn scripts_reach_every_answer() {
     }
 }
 
+/// Every judgement comes, often, with both sorts of what our rules answer; as text, and as numbers.
+#[test]
+fn logs_reach_every_judgement() {
+    let mut seen: BTreeMap<String, usize> = BTreeMap::new();
+    for seed in 0..1_000 {
+        let case = log_case(seed, 60);
+        let printed = case.answer().printed;
+        printed.lines().chain(log(seed, 60).answer().lines()).for_each(|line| *seen.entry(sort_of_answer(line)).or_default() += 1);
+        assert_eq!(log_case(seed, 60).text, case.text);
+    }
+    println!("{seen:?}");
+    let often = |sort: &str, least: usize| assert!(seen.get(sort).is_some_and(|&count| count >= least), "{sort}: {seen:?}");
+    for sort in ["accepted records", "record malformed", "record another choice", "our rules: packet", "our rules: none waits", "record refused 14", "not a number"] {
+        often(sort, 40);
+    }
+    for (number, least) in [(11, 20), (12, 10), (13, 10), (15, 5)] {
+        often(&format!("record refused {number}"), least);
+    }
+    for number in 1..=10 {
+        often(&format!("tree refused {number}"), 1);
+    }
+    for answer in 0..=4 {
+        often(&format!("judge {answer}"), 30);
+    }
+}
+
 /// The long files by hand get the refusals that they were made for.
 #[test]
 fn long_files_by_hand() {

@@ -54,7 +54,7 @@ fn tree_to_write(dice: &mut Dice) -> Tree {
 }
 
 /// The place of a random element.
-fn any_of<T>(dice: &mut Dice, of: &[T]) -> usize {
+pub(super) fn any_of<T>(dice: &mut Dice, of: &[T]) -> usize {
     dice.below(of.len() as u64) as usize
 }
 
@@ -126,7 +126,7 @@ fn random_spelling(dice: &mut Dice) -> Spelling {
 }
 
 /// At least one space, tab or carriage return.
-fn white_space(dice: &mut Dice, chatty: u64) -> Vec<u8> {
+pub(super) fn white_space(dice: &mut Dice, chatty: u64) -> Vec<u8> {
     let mut space = vec![if dice.chance(chatty, 16) { dice.pick(b" \t\r") } else { b' ' }];
     while dice.chance(chatty, 24) {
         space.push(dice.pick(b" \t\r"));
@@ -134,13 +134,13 @@ fn white_space(dice: &mut Dice, chatty: u64) -> Vec<u8> {
     space
 }
 
-fn remark(dice: &mut Dice) -> Vec<u8> {
+pub(super) fn remark(dice: &mut Dice) -> Vec<u8> {
     let any = vec![b'#', dice.below(256) as u8, dice.below(256) as u8];
     let remark = dice.pick(&[b"#".to_vec(), b"# tree".to_vec(), b"# class 1 parent 0 share 1 none".to_vec(), b"## a remark #".to_vec(), any]);
     remark.into_iter().filter(|&byte| byte != b'\n').collect()
 }
 
-fn spelled_word(dice: &mut Dice, word: &str, chatty: u64) -> Vec<u8> {
+pub(super) fn spelled_word(dice: &mut Dice, word: &str, chatty: u64) -> Vec<u8> {
     let mut spelled = Vec::new();
     if word.starts_with(|first: char| first.is_ascii_digit()) && dice.chance(chatty, 32) {
         spelled.resize(dice.pick(&[1, 2, 9, 40]), b'0');
