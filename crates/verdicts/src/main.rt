@@ -1,6 +1,7 @@
 // Judges short logs, each for a sentence of request 4, over the class-tree file that its argument names, through the function for hosts in C, and prints a
 // line a log: the answer, and the four numbers that say more. The tree is the studio's: its leaves are 3 to 7, and 2 has children.
 mod accepted;
+mod started;
 mod wrong;
 
 fn main() {
@@ -14,6 +15,7 @@ fn main() {
     let n = got.bytes;
     accepted::run(&bytes[..n]);
     wrong::run(&bytes[..n]);
+    started::run();
 }
 
 // The line of a log. What `out` held before is no part of the answer.
