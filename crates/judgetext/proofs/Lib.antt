@@ -4,3 +4,4 @@ pub mod Onward
 pub mod Turns
 pub mod One
 pub mod Meaning
+pub mod OwnText

@@ -5,9 +5,13 @@ use mathlib.Core.Path.{_≡_}
 use mathlib.Core.Bool.{true, false}
 use mathlib.Core.List.{List, _∷_, _++_}
 use lib.ListN.{length}
+use Rattle.tree.specs.declared.Tree.{Tree}
+use Rattle.tree.specs.declared.Verdict.the-variants as verdict
 use Rattle.rules.specs.Calls.{History}
+use Rattle.rules.specs.Answers.{Starts}
 use Rattle.judge.specs.declared.Judgement.the-variants.{Accepted}
 use Rattle.judge.specs.Judging.{Judges}
+use Rattle.judge.specs.Theorems.{Logs}
 use Rattle.logtext.specs.declared.Seen.the-variants as seen
 use Rattle.logtext.specs.Scans.{beforeText, seenAt}
 use Rattle.logtext.specs.Texts.{numbersOf, scanOver, isWell}
@@ -50,3 +54,11 @@ Means h text (NotANumber line) at next = UpTo h text line next
 abbrev pub TextJudged : Type 0
 TextJudged =
     (h : History) (text : List ℕ) (at : Progress) (next : History) → length text < 2 ^ 64 → TextFollows h beforeLog text at next → Means h text (at .standing) at next
+
+-- the text of a log of our own calls, as `replay --log` prints it (logtext: `LogReads`) or in other white space and with comments, is accepted: `own-text-accepted`
+abbrev pub OwnTextAccepted : Type 0
+OwnTextAccepted =
+    (tree : Tree) (first : ℕ) (log m l : List ℕ) (h : History) → first < 2 ^ 32 → Logs tree first log m l h
+    → (text : List ℕ) → isWell beforeText text ≡ true → numbersOf beforeText text ≡ log → length text < 2 ^ 64
+    → (start : History) (at : Progress) (next : History) → Starts tree first verdict.Right start → TextFollows start beforeLog text at next
+    → (judgementOf at ≡ Accepted) × ((line : ℕ) → at .standing ≡ NotANumber line → ⊥)

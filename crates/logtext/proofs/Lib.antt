@@ -2,4 +2,5 @@ pub mod Turns
 pub mod WordBytes
 pub mod WordReads
 pub mod RecordReads
+pub mod LogReads
 pub mod Examples

@@ -1,6 +1,6 @@
 -- What is proved of the text of a log. Each statement stands here under a name; a comment names the law of proofs/ that proves it.
 -- Assumes nothing.
-use Prim.Native.Nat.{ℕ, _<_, _^_}
+use Prim.Native.Nat.{ℕ, zero, suc, _*_, _<_, _^_}
 use mathlib.Core.Path.{_≡_}
 use mathlib.Core.Bool.{true, false, _&&_}
 use mathlib.Core.List.{List, [], _∷_, _++_}
@@ -49,3 +49,25 @@ abbrev pub RecordReads : Type 0
 RecordReads =
     (line a b c d : ℕ) → a < 2 ^ 32 → b < 2 ^ 32 → c < 2 ^ 32 → d < 2 ^ 32
     → Reads (between line) (recordText a b c d) (a ∷ b ∷ c ∷ d ∷ []) (between (nextLine line))
+
+-- the text of a log, as `replay --log` prints it: a line a record
+unfoldable pub logText : List ℕ → List ℕ
+logText [] = []
+logText (a ∷ []) = []
+logText (a ∷ b ∷ []) = []
+logText (a ∷ b ∷ c ∷ []) = []
+logText (a ∷ b ∷ c ∷ d ∷ log) = recordText a b c d ++ logText log
+
+-- numbers of 32 bits
+unfoldable pub Narrow : List ℕ → Type 0
+Narrow [] = Unit {0}
+Narrow (n ∷ log) = (n < 2 ^ 32) × Narrow log
+
+-- so many lines on
+unfoldable pub linesOn : ℕ → ℕ → ℕ
+linesOn line zero = line
+linesOn line (suc n) = linesOn (nextLine line) n
+
+-- it reads as the log's numbers: `log-reads`
+abbrev pub LogReads : Type 0
+LogReads = (line records : ℕ) (log : List ℕ) → length log ≡ 4 * records → Narrow log → Reads (between line) (logText log) log (between (linesOn line records))
