@@ -15,7 +15,7 @@ command -v rt >/dev/null || say 2 'not run: no rt on the PATH'
 mkdir -p target
 can_compile target/host || say 2 "not run: no C compiler for x86-64 (tried $compile)"
 
-rt staticlib host || say 1 'the library is not built'
+library || say 1 'the library is not built'
 # shellcheck disable=SC2086
 $compile -std=c99 -Wall -Wextra -pedantic -O2 -Icrates/host/include -o target/host examples/host.c target/staticlib/libhost.a ||
     say 1 'it does not build'

@@ -14,3 +14,11 @@ can_compile() { # PROGRAM, a file that it may write
     # shellcheck disable=SC2086
     printf '#include <stdio.h>\nint main(void) { return puts("") < 0; }\n' | $compile -x c -o "$1" - >/dev/null 2>&1 && $run "$1" >/dev/null 2>&1
 }
+
+# The library of the crate `host`, target/staticlib/libhost.a: proved and written where that was not done since the last change. To be called in the repository's
+# own folder.
+library() {
+    kit=$(dirname "$(dirname "$(readlink -f "$(command -v rt)")")")
+    if [ -e target/staticlib/libhost.a ] && [ -z "$(find crates crates.txt "$kit/KIT-ID" -newer target/staticlib/libhost.a 2>/dev/null | head -n 1)" ]; then return; fi
+    rt staticlib host
+}

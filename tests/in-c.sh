@@ -17,7 +17,7 @@ build() {
     command -v rt >/dev/null || say 2 'not run: no rt on the PATH'
     . "$root/examples/x86-64.sh"
     can_compile "$root/target/$name.x86-64" || say 2 "not run: no C compiler for x86-64 (tried $compile)"
-    (cd "$root" && rt staticlib host) || say 1 'the library is not built'
+    (cd "$root" && library) || say 1 'the library is not built'
     # shellcheck disable=SC2086
     $compile -std=c99 -Wall -Wextra -pedantic -O2 -I"$root/crates/host/include" -o "$root/target/$name.x86-64" "$root/tests/$name.c" \
         "$root/target/staticlib/libhost.a" || say 1 'it does not build'
