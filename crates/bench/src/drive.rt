@@ -6,7 +6,7 @@ use state::table::{Lengths, Words};
 
 // The tree; the generator's last number; the last stamp; the packet that left last, its leaf and the ticks
 // that it holds the link; the sums.
-#[derive(Drop)]
+#[derive(Clone, Copy)]
 pub struct Tally {
     pub above: u8,
     pub leaves: u8,

@@ -1,5 +1,7 @@
 // Makes its own calls of the scheduler, in memory, and prints one line: how many packets left, and two
 // sums over all answers. bench/ of the repository has the same in C, which prints the same line.
+
+#![tactic(auto)]
 use state::table::{CELLS, Lengths, PLACES, Words};
 
 mod drive;

@@ -1,4 +1,6 @@
 // A reader that takes a class-tree file in bursts, as it comes, and is told when the file ends.
+
+#![tactic(auto)]
 ghost use Rattle.bursts.specs.Bursts.{Begun, Offered, Ended};
 
 use tree::{Tree, Verdict};
@@ -14,21 +16,21 @@ pub const MOST_SEEN: usize = 4294967296;
 pub type Kept = [u8; KEPT];
 
 // What was seen of it: how many bytes, a count that stops at 2^32, and whether its end was told.
-#[derive(Drop)]
+#[derive(Clone, Copy)]
 pub struct Seen {
     pub count: usize,
     pub ended: bool,
 }
 
 // Nothing yet, before the end was told; from then on the verdict on the whole file.
-#[derive(Drop)]
+#[derive(Clone, Copy)]
 pub enum Answered {
     NothingYet,
     Reads { verdict: Verdict },
 }
 
 // What is said of a burst or of the end: what was seen with it, the answer, and the tree, of no classes where there is none.
-#[derive(Drop)]
+#[derive(Clone, Copy)]
 pub struct Taken {
     pub seen: Seen,
     pub answer: Answered,

@@ -1,11 +1,13 @@
 // The lines of a calls file, as docs/FORMS.md sets them down: which line is which call.
+
+#![tactic(auto)]
 ghost use Rattle.std.specs.Prelude.{◌≡◌};
 ghost use Rattle.calls.specs.Lines.{said, call_in, call_of, arrive_of, arrive_in};
 
 use wording::{Operand, behind, is, is_number, number, only, uncomment, word};
 
 // What a line says.
-#[derive(Drop)]
+#[derive(Clone, Copy)]
 pub enum Line {
     Start { stamp: u32 },
     Arrive { stamp: u32, class: u32, length: u32 },

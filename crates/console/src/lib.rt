@@ -1,6 +1,8 @@
 // What the programs write and read: lines to standard output, whole files, class-tree files of any length, and the status
 // that a command ends with. No promise can say what a file or a screen then holds, so these stay small; what is written is
 // `print`'s.
+
+#![tactic(auto)]
 mod trees;
 
 ghost use Rattle.print.specs.Promises.{Within};
@@ -14,7 +16,7 @@ pub use trees::{read_tree, tree_argument};
 const STATUS_FILENO: i32 = 9;
 
 // How a program ends: all was done; something was refused, or could not be read or written; it was called wrongly.
-#[derive(Drop)]
+#[derive(Clone, Copy)]
 pub enum Status {
     Done,
     Failed,
@@ -22,7 +24,7 @@ pub enum Status {
 }
 
 // Whether a file was read, and how many bytes of it stand in the buffer.
-#[derive(Drop)]
+#[derive(Clone, Copy)]
 pub struct Got {
     pub is_read: bool,
     pub bytes: usize,

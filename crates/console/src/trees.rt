@@ -6,7 +6,7 @@ use print::Answer;
 use tree::{Tree, Verdict};
 
 // A tree, where there is one.
-#[derive(Drop)]
+#[derive(Clone, Copy)]
 pub struct Told {
     pub is_there: bool,
     pub tree: Tree,

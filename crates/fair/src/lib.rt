@@ -1,5 +1,7 @@
 // A class among its parent's children: marks, fair pieces, virtual times, and who is active. These are
 // steps that the scheduler's calls are made of; hosts call `sched`.
+
+#![tactic(auto)]
 ghost use Rattle.std.specs.Prelude.{◌≡◌, List, ℕ, ◌<◌, min, max};
 ghost use Rattle.tree.specs.declared.Tree.{Tree};
 ghost use Rattle.rules.specs.Calls.{Call};
@@ -19,7 +21,7 @@ use state::table::{
 
 // Of a class's children: whether one is active, without the one that turns active, with the smallest
 // and the largest of their virtual times; and the largest virtual time of all children.
-#[derive(Drop)]
+#[derive(Clone, Copy)]
 pub struct Spread {
     pub any: bool,
     pub low: u64,

@@ -12,7 +12,7 @@ use curve::codec::encode;
 use tree::{Class, Refusal, Tree, Verdict};
 
 // What was written: so many bytes, or nothing, since the tree is refused for a class.
-#[derive(Drop)]
+#[derive(Clone, Copy)]
 pub enum Written {
     Bytes(u32),
     Refused { why: Refusal, class: u32 },

@@ -1,5 +1,7 @@
 // The scheduler for hosts in C: numbers and lent arrays. `include/hfsc.h` declares these functions. Every
 // name starts with `hfsc_`, since a linked program has one space of names.
+
+#![tactic(auto)]
 ghost use Rattle.std.specs.Prelude.{◌≡◌, length};
 ghost use Rattle.rules.specs.Clock.{clock};
 ghost use Rattle.rules.specs.Queues.{queue};

@@ -1,5 +1,7 @@
 // Judges the log of a box: replayed over our own rules, every record has to be what they say. A log is a lent list of
 // numbers, four to a record.
+
+#![tactic(auto)]
 ghost use Rattle.std.specs.Prelude.{◌≡◌, ◌+◌, ◌≤◌, length, get_or};
 ghost use Rattle.records.specs.Records.{record_of};
 ghost use Rattle.state.specs.State.{Reached};
@@ -13,7 +15,7 @@ use state::table::{CELLS, Lengths, PLACES, Words};
 use tree::{Refusal, Tree, Verdict};
 
 // What a record is found to be. `ours` is the answer of our rules where the record has another.
-#[derive(Drop)]
+#[derive(Clone, Copy)]
 pub enum Finding {
     Holds,
     Malformed,
@@ -22,7 +24,7 @@ pub enum Finding {
 }
 
 // What a log is judged as: accepted, the refusal of its tree, or its first wrong record, counted from 0.
-#[derive(Drop)]
+#[derive(Clone, Copy)]
 pub enum Judgement {
     Accepted,
     TreeRefused { why: Refusal, class: u32 },

@@ -1,4 +1,6 @@
 // The text of a log, judged as it comes: byte by byte, so that it does not matter in which turns it is read.
+
+#![tactic(auto)]
 ghost use Rattle.std.specs.Prelude.{◌≡◌};
 ghost use Rattle.state.specs.State.{Reached};
 ghost use Rattle.state.specs.Heads.{EveryHistory};
@@ -10,7 +12,7 @@ use logtext::{Scan, Seen};
 use state::table::{Lengths, Words};
 
 // The numbers of a record that is begun.
-#[derive(Drop)]
+#[derive(Clone, Copy)]
 pub enum Held {
     Nothing,
     Kind { kind: u32 },
@@ -19,7 +21,7 @@ pub enum Held {
 }
 
 // How a text stands: right so far, a wrong record after the right ones, or a word that is no number.
-#[derive(Drop)]
+#[derive(Clone, Copy)]
 pub enum Standing {
     Right,
     Wrong { finding: Finding },
@@ -27,7 +29,7 @@ pub enum Standing {
 }
 
 // How far a text is judged: the scan of its bytes, its right records so far, and the numbers after them.
-#[derive(Drop)]
+#[derive(Clone, Copy)]
 pub struct Progress {
     pub scan: Scan,
     pub records: u64,

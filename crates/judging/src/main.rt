@@ -1,5 +1,7 @@
 // Judges the log of a box over a class-tree file, from a first stamp, and prints what it is judged as, as docs/FORMS.md sets it
 // down.
+
+#![tactic(auto)]
 mod turns;
 
 use console::Status;

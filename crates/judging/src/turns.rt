@@ -6,7 +6,7 @@ use state::table::{CELLS, Lengths, PLACES, Words};
 use tree::{Refusal, Tree, Verdict};
 
 // What comes of a log's file: how far it was judged, the refusal of the tree, or that it can't be read.
-#[derive(Drop)]
+#[derive(Clone, Copy)]
 pub enum Read {
     Judged { at: Progress },
     Refused { why: Refusal, class: u32 },

@@ -1,11 +1,13 @@
 // The text of a log, scanned byte by byte, as docs/FORMS.md sets it down.
+
+#![tactic(auto)]
 ghost use Rattle.std.specs.Prelude.{◌≡◌};
 ghost use Rattle.logtext.specs.Scans.{kind_of, shown, shown_between, shown_in, seen_at, before_text, longer, next_line, between, onward, passed, stepped};
 
 use wording::{Operand, capped, is_blank, narrow, wide};
 
 // Where in the text a scan is.
-#[derive(Drop)]
+#[derive(Clone, Copy)]
 pub enum Place {
     Between,
     Number,
@@ -13,7 +15,7 @@ pub enum Place {
 }
 
 // How far a scan has come: its line, counted from 1, the place in it, and the number that its digits so far make.
-#[derive(Drop)]
+#[derive(Clone, Copy)]
 pub struct Scan {
     pub line: u64,
     pub place: Place,
@@ -21,7 +23,7 @@ pub struct Scan {
 }
 
 // What a byte shows: nothing yet, a number that ends before it, or a word that is no number.
-#[derive(Drop)]
+#[derive(Clone, Copy)]
 pub enum Seen {
     Nothing,
     Ended(u32),
@@ -29,7 +31,7 @@ pub enum Seen {
 }
 
 // A kind of byte: a digit, white space, the end of a line, what starts a comment, and what no number has.
-#[derive(Drop)]
+#[derive(Clone, Copy)]
 enum Kind {
     Digit(u8),
     Blank,

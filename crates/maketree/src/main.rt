@@ -1,4 +1,6 @@
 // Makes a class-tree file from the text of a tree, as docs/FORMS.md sets both down.
+
+#![tactic(auto)]
 mod saving;
 
 use console::Status;

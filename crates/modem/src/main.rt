@@ -1,5 +1,7 @@
 // Sends class-tree files in bursts through the functions for hosts in C, and prints what each call answers and what was
 // seen then.
+
+#![tactic(auto)]
 use bursts::KEPT;
 
 mod asking;

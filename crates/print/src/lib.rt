@@ -1,4 +1,6 @@
 // Prints: the line of an answer and the text of a tree, as docs/FORMS.md sets them down, into a buffer that is lent.
+
+#![tactic(auto)]
 ghost use Rattle.std.specs.Prelude.{◌≡◌, ◌≤◌};
 ghost use Rattle.print.specs.Lines.{start_answer, arrival_answer, departure_answer};
 ghost use Rattle.print.specs.Promises.{PrintsLine, PrintsTree, PrintsNumber, line_room};
@@ -16,7 +18,7 @@ pub const NUMBER: usize = 21;
 pub const TEXT: usize = 12480;
 
 // What is wrong with a line of a calls file, of a tree's text or of a log.
-#[derive(Drop)]
+#[derive(Clone, Copy)]
 pub enum Wrong {
     NotACall,
     NotAClass,
@@ -29,7 +31,7 @@ pub enum Wrong {
 }
 
 // What is printed as a line.
-#[derive(Drop)]
+#[derive(Clone, Copy)]
 pub enum Answer {
     Started { count: u32 },
     TreeRefused { why: Refusal, class: u32 },

@@ -1,4 +1,6 @@
 // Prints the lines of a judged log, and of a log's record, as docs/FORMS.md sets them down, into a buffer that is lent.
+
+#![tactic(auto)]
 ghost use Rattle.std.specs.Prelude.{◌∷◌, ◌++◌, ◌+◌, ◌≤◌, length};
 ghost use Rattle.wording.specs.Letters.{space};
 ghost use Rattle.wording.specs.Decimal.{decimal};
@@ -15,7 +17,7 @@ use tree::Refusal;
 pub const LINE: usize = 256;
 
 // What is printed as a line of a log.
-#[derive(Drop)]
+#[derive(Clone, Copy)]
 pub enum LogLine {
     Accepted {
         records: u64,

@@ -1,5 +1,7 @@
 // Prints the lines of a sheet, which say why a departure would take from a leaf or not, as docs/FORMS.md sets them down, into
 // a buffer that is lent.
+
+#![tactic(auto)]
 ghost use Rattle.std.specs.Prelude.{◌+◌, ◌*◌, ◌≤◌, length};
 ghost use Rattle.tree.specs.Trees.{most_classes};
 ghost use Rattle.reason.specs.Reasons.{numbers};

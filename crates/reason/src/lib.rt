@@ -1,11 +1,13 @@
 // Why a departure would take from a leaf or not, and the line of a sheet that says so.
+
+#![tactic(auto)]
 ghost use Rattle.std.specs.Prelude.{◌≡◌, ◌+◌, ◌≤◌, length};
 ghost use Rattle.reason.specs.Reasons.{numbers, values_of, number_of, reason_of};
 ghost use Rattle.reason.specs.Lines.{PutLine};
 
 // Nothing waits; chosen by deadline; no real-time curve; not eligible until that tick; behind the chosen leaf, by a later
 // deadline or by an equal one and a higher number; chosen by share; passed over at a class for a child of that virtual time.
-#[derive(Drop)]
+#[derive(Clone, Copy)]
 pub enum Reason {
     NothingWaits,
     ChosenByDeadline,

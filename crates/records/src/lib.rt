@@ -1,4 +1,6 @@
 // The records of a log, four numbers each: what they say, and the record that a call leaves in the log of its run.
+
+#![tactic(auto)]
 ghost use Rattle.std.specs.Prelude.{◌≡◌};
 ghost use Rattle.records.specs.Records.{record_of, arrival_entry, departure_entry};
 
@@ -12,7 +14,7 @@ pub const DEPARTURE: u32 = 2;
 pub const FOUND_EMPTY: u32 = 3;
 
 // What four numbers say.
-#[derive(Drop)]
+#[derive(Clone, Copy)]
 pub enum Record {
     Arrived { stamp: u32, class: u32, length: u32 },
     Departed { stamp: u32, class: u32, length: u32 },
@@ -21,7 +23,7 @@ pub enum Record {
 }
 
 // What a call leaves in the log: nothing where it is refused.
-#[derive(Drop)]
+#[derive(Clone, Copy)]
 pub enum Entry {
     Nothing,
     Numbers {

@@ -13,7 +13,7 @@ use tree::Tree;
 
 // What a line is replied with: nothing, the answer of its call and what the call leaves in the log, or what is wrong with the
 // line, which ends the replay.
-#[derive(Drop)]
+#[derive(Clone, Copy)]
 pub enum Reply {
     Silent,
     Says { answer: Answer, entry: Entry },
@@ -21,14 +21,14 @@ pub enum Reply {
 }
 
 // What is printed of a call: its answer, or what it leaves in the log.
-#[derive(Drop)]
+#[derive(Clone, Copy)]
 pub enum Form {
     Answers,
     Log,
 }
 
 // How far a replay has come.
-#[derive(Drop)]
+#[derive(Clone, Copy)]
 pub struct Progress {
     // the lines so far
     pub lines: u64,

@@ -1,4 +1,6 @@
 // Replays a file of calls over a class-tree file, and prints the answers or the log, as docs/FORMS.md sets them down.
+
+#![tactic(auto)]
 mod lines;
 mod output;
 mod turns;

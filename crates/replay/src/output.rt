@@ -11,7 +11,7 @@ pub fn flush(out: &[u8], used: usize) -> bool
 }
 
 // So many bytes wait, and whether those before could be written where they had to be.
-#[derive(Drop)]
+#[derive(Clone, Copy)]
 pub struct Waiting {
     pub used: usize,
     pub is_well: bool,

@@ -13,7 +13,7 @@ use tree::Tree;
 
 // How far the reading has come: the text between is not replayed yet, so many printed bytes wait to be written, whether
 // there is text, and whether all was read and written well.
-#[derive(Drop)]
+#[derive(Clone, Copy)]
 struct Window {
     from: usize,
     end: usize,

@@ -1,5 +1,7 @@
 // What a call of the scheduler answers, and the two small functions that stand on no state. The rules
 // themselves, and the guarantee, are the definitions and theorems of specs/ and proofs/.
+
+#![tactic(auto)]
 ghost use Rattle.std.specs.Prelude.{◌≡◌};
 ghost use Rattle.rules.specs.Limits as limits;
 ghost use Rattle.rules.specs.Clock.{elapsed_ticks};
@@ -22,21 +24,21 @@ pub const TOO_FAR: u32 = 2147483648;
 const FRAMING: u64 = 8 + 12;
 
 // The rule by which a packet leaves.
-#[derive(Drop)]
+#[derive(Clone, Copy)]
 pub enum Rule {
     RealTime,
     Fair,
 }
 
 // Eligible time and deadline, for a leaf with a real-time curve.
-#[derive(Drop)]
+#[derive(Clone, Copy)]
 pub enum Times {
     Untimed,
     Timed { eligible: u64, deadline: u64 },
 }
 
 // A packet that leaves: its class, its number within the leaf from 0, its length.
-#[derive(Drop)]
+#[derive(Clone, Copy)]
 pub struct Packet {
     pub class: u32,
     pub number: u64,
@@ -46,14 +48,14 @@ pub struct Packet {
 }
 
 // The answer of an arrival.
-#[derive(Drop)]
+#[derive(Clone, Copy)]
 pub enum Arrival {
     Accepted { number: u64 },
     Refused { why: Refusal },
 }
 
 // The answer of a departure.
-#[derive(Drop)]
+#[derive(Clone, Copy)]
 pub enum Departure {
     Leaves { packet: Packet },
     NoneWaits,

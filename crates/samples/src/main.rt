@@ -1,4 +1,6 @@
 // Reads each class-tree file that its arguments name, whole and in bursts, writes what it finds, and prints how each ends.
+
+#![tactic(auto)]
 mod cut;
 mod writing;
 

@@ -1,6 +1,8 @@
 // The scheduler. Its state is two arrays that the host lends and keeps: a table of words by columns, and
 // the lengths of the packets that wait. Every call changes them in place, and leaves them as they were
 // where it refuses.
+
+#![tactic(auto)]
 ghost use Rattle.std.specs.Prelude.{◌≡◌, List, ℕ};
 ghost use Rattle.tree.specs.declared.Tree.{Tree};
 ghost use Rattle.rules.specs.Calls.{Call, came, left};
@@ -25,7 +27,7 @@ use tree::{Refusal, Tree, Verdict};
 
 pub mod readers;
 // Whether an arrival can be accepted.
-#[derive(Drop)]
+#[derive(Clone, Copy)]
 enum Admission {
     Open,
     Refused { why: Refusal },

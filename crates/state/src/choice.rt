@@ -10,13 +10,13 @@ use crate::table::{
 };
 use rules::Rule;
 
-#[derive(Drop)]
+#[derive(Clone, Copy)]
 pub enum LeafFound {
     At(usize),
     Nothing,
 }
 
-#[derive(Drop)]
+#[derive(Clone, Copy)]
 pub enum Sender {
     Leaf { class: usize, rule: Rule },
     Nothing,

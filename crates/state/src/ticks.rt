@@ -11,7 +11,7 @@ use crate::table::{CLOCK, STAMP, Words, header, put_header};
 use tree::Refusal;
 
 // The clock after a call with this stamp, or why the call is refused.
-#[derive(Drop)]
+#[derive(Clone, Copy)]
 pub enum NextClock {
     At(u64),
     Refused { why: Refusal },

@@ -1,5 +1,7 @@
 // Class trees: the classes, the refusals, and the rules that a tree is held to. A tree is its count and
 // the classes numbered below it; nothing else held with it counts.
+
+#![tactic(auto)]
 ghost use Rattle.std.specs.Prelude.{◌≡◌};
 ghost use Rattle.tree.specs.Numbers.{number_of};
 ghost use Rattle.tree.specs.Rules.{ShapeJudged, Judged};
@@ -19,7 +21,7 @@ pub const MOST_CLASSES: u32 = CLASSES as u32;
 pub const DEEPEST: u32 = 8;
 
 // A class: the number of its parent, its share, and its real-time curve.
-#[derive(Drop)]
+#[derive(Clone, Copy)]
 pub struct Class {
     pub parent: u32,
     pub share: u32,
@@ -27,14 +29,14 @@ pub struct Class {
 }
 
 // A tree by value. Class 0 is the root.
-#[derive(Drop)]
+#[derive(Clone, Copy)]
 pub struct Tree {
     pub count: u32,
     pub classes: [Class; CLASSES],
 }
 
 // What is refused, one for each number of document 01's table, in its order.
-#[derive(Drop)]
+#[derive(Clone, Copy)]
 pub enum Refusal {
     ShortFile,
     NoMark,
@@ -56,14 +58,14 @@ pub enum Refusal {
 }
 
 // A tree is right, or it is refused for a class.
-#[derive(Drop)]
+#[derive(Clone, Copy)]
 pub enum Verdict {
     Right,
     Refused { why: Refusal, class: u32 },
 }
 
 // What a search through the classes finds: the lowest class at fault, or none.
-#[derive(Drop)]
+#[derive(Clone, Copy)]
 enum Fault {
     At(u32),
     Nowhere,

@@ -1,4 +1,6 @@
 // The text of a tree, as docs/FORMS.md sets it down: which tree a text is, or which of its lines is wrong.
+
+#![tactic(auto)]
 ghost use Rattle.std.specs.Prelude.{◌≡◌, ◌+◌, ◌^◌, ◌≤◌, ◌<◌};
 ghost use Rattle.treetext.specs.Entries.{entry_of, entry_in, head_in, class_in, class_of, curve_in, none_in, straight_in, front_loaded_in, delayed_in, labelled, form_of, value_of, worse};
 ghost use Rattle.treetext.specs.Texts.{tree_in, with_line, with_entry, passed, faulty, with_head, classed, with_class, is_done, blank_draft};
@@ -9,7 +11,7 @@ use tree::{Class, MOST_CLASSES, Tree};
 use wording::{Operand, behind, is, line_end, number, only, uncomment, word};
 
 // What a line says.
-#[derive(Drop)]
+#[derive(Clone, Copy)]
 pub enum Entry {
     Nothing,
     Head,
@@ -19,14 +21,14 @@ pub enum Entry {
 }
 
 // The first line that is wrong, by its number from 1, and what is wrong with it.
-#[derive(Drop)]
+#[derive(Clone, Copy)]
 pub enum Fault {
     Nowhere,
     At { line: u64, wrong: Wrong },
 }
 
 // A text, as far as it was read: the lines so far, whether `tree` was among them, the first wrong one, and the classes.
-#[derive(Drop)]
+#[derive(Clone, Copy)]
 pub struct Draft {
     pub lines: u64,
     pub headed: bool,
@@ -35,7 +37,7 @@ pub struct Draft {
 }
 
 // The form of a part of a line: right, right but for a number past 32 bits, or wrong.
-#[derive(Drop)]
+#[derive(Clone, Copy)]
 enum Form {
     Right,
     TooLarge,
@@ -43,7 +45,7 @@ enum Form {
 }
 
 // A curve and its form. Where that is not right the curve means nothing.
-#[derive(Drop)]
+#[derive(Clone, Copy)]
 struct Curved {
     form: Form,
     curve: Curve,

@@ -1,5 +1,7 @@
 // Judges short logs, each for a sentence of request 4, over the class-tree file that its argument names, through the function for hosts in C, and prints a
 // line a log: the answer, and the four numbers that say more. The tree is the studio's: its leaves are 3 to 7, and 2 has children.
+
+#![tactic(auto)]
 mod accepted;
 mod started;
 mod wrong;

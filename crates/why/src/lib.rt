@@ -1,4 +1,6 @@
 // Why a departure would take from each leaf or not: a sheet with a line for every leaf. Nothing of the state is changed.
+
+#![tactic(auto)]
 ghost use Rattle.std.specs.Prelude.{◌≡◌, List, ℕ, ◌≤◌};
 ghost use Rattle.rules.specs.Limits.{last_tick};
 ghost use Rattle.state.specs.State.{Reached};
@@ -18,14 +20,14 @@ use state::ticks::{NextClock, tick};
 use tree::Refusal;
 
 // How many lines the sheet got, or why it got none.
-#[derive(Drop)]
+#[derive(Clone, Copy)]
 pub enum Sheet {
     Lines { lines: u64 },
     Refused { why: Refusal },
 }
 
 // The last class common to the ways up from two leaves, and its child on the second one's way.
-#[derive(Drop)]
+#[derive(Clone, Copy)]
 struct Parting {
     class: usize,
     child: usize,

@@ -8,7 +8,7 @@ use mathlib.Core.Bool.{Bool, true, false, not, ◌&&◌}
 use mathlib.Core.List.{List, [], ◌∷◌, ◌++◌, append-nil}
 use lib.Dec.{eqb}
 use lib.ListN.{length, take, drop}
-use lib.Seq.{take_length, take-append_seam, drop-append_seam}
+use lib.Seq.{take-length, take-append_seam, drop-append_seam}
 use borrow.Author.Tests.{ne_eqb, not-true}
 use Rattle.wording.specs.declared.Kind.TheVariants.{Blank, Dark, Text}
 use Rattle.wording.specs.Letters.{space, line_feed}
@@ -144,4 +144,4 @@ pub uncommented_all : (line : List ℕ) → every is_text line ≡ true → unco
 unfolding uncommented span
 uncommented_all line h =
     let all : span is_text line ≡ length line = rw (append-nil line) at (span_every is_text line [] h) ∙ omega arith in
-    rw all (take_length line)
+    rw all (take-length line)

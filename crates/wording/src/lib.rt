@@ -1,10 +1,12 @@
 // The words of a line, and the numbers that words are, as docs/FORMS.md sets them down.
+
+#![tactic(auto)]
 ghost use Rattle.std.specs.Prelude.{◌≡◌, ◌+◌, ◌≤◌, ◌^◌, min, length, drop};
 ghost use Rattle.wording.specs.Words.{is_blank, is_of, is_inner, span, uncommented, first, after, same};
 ghost use Rattle.wording.specs.Numbers.{number_of, narrowed, is_number, only_in};
 
 // A word as a number: one of 32 bits, one past them, or none.
-#[derive(Drop)]
+#[derive(Clone, Copy)]
 pub enum Operand {
     Of(u32),
     TooLarge,
@@ -12,7 +14,7 @@ pub enum Operand {
 }
 
 // A kind of byte: white space, what words are made of, and what is no comment.
-#[derive(Drop)]
+#[derive(Clone, Copy)]
 enum Kind {
     Blank,
     Dark,

@@ -1,5 +1,7 @@
 // Runs the rows of document 01's table, and more that its text fixes, through start, arrive and depart,
 // and prints a line a fact.
+
+#![tactic(auto)]
 use state::table::{CELLS, PLACES};
 
 mod asked;

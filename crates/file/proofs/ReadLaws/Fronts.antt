@@ -7,7 +7,7 @@ use mathlib.Core.List.{List, ◌++◌}
 use mathlib.Core.Logic.{◌⊎◌, inl, inr, ⊎_elim}
 use native.Mathlib.Omega.{arith}
 use lib.ListN.{length, replicate, length-append, length-replicate}
-use lib.Seq.{take_all, take_length, take-append_seam, get_or-take}
+use lib.Seq.{take_all, take-length, take-append_seam, get_or-take}
 use Rattle.curve.specs.Curves.{Within}
 use Rattle.curve.proofs.Laws.Order.{le_or_lt}
 use Rattle.tree.specs.Rules.{RightClass, LowestFault, broken, kept}
@@ -28,11 +28,11 @@ hand_long bytes given n (inr l) h most = omega (arith, l.0)
 
 -- a whole file is at hand, and its own front
 pub whole_front : (file : List ℕ) → Front file (length file) file
-whole_front file = record { first = sym (take_length file); enough = inl refl; counted = refl }
+whole_front file = record { first = sym (take-length file); enough = inl refl; counted = refl }
 
 -- whatever is at hand, there is a file of which it is: zeros after it make one
 pub front_some : (bytes : List ℕ) (given : ℕ) → AtHand bytes given → FrontSome bytes given
-front_some bytes given (inl e) = record { file = bytes; front = record { first = sym (take_length bytes); enough = inl refl; counted = rw e refl } }
+front_some bytes given (inl e) = record { file = bytes; front = record { first = sym (take-length bytes); enough = inl refl; counted = rw e refl } }
 front_some bytes given (inr l) =
     let rest : List ℕ = replicate (given - length bytes) 0 in
     let long : length (bytes ++ rest) ≡ given = omega (arith, l.1, length-append bytes rest, length-replicate {A = ℕ} (given - length bytes) 0) in
