@@ -1,6 +1,7 @@
 // The words of a line, and the numbers that words are, as docs/FORMS.md sets them down.
 
 #![tactic(auto)]
+
 ghost use Rattle.std.specs.Prelude.{◌≡◌, ◌+◌, ◌≤◌, ◌^◌, min, length, drop};
 ghost use Rattle.wording.specs.Words.{is_blank, is_of, is_inner, span, uncommented, first, after, same};
 ghost use Rattle.wording.specs.Numbers.{number_of, narrowed, is_number, only_in};

@@ -35,6 +35,7 @@ rising_reaches (FrontLoaded m₁ d m₂) r x =
 rising_reaches (Delayed d m) r x =
     let a = mul-le-mul r.rate.above (native.Mathlib.Nat.le_refl (x + latest_bend - d)) in
     omega (arith, r.bend.below)
+rising_reaches None r x = elim r [ ]
 
 -- a sum of ticks is moved across a bend: what the steep part loses the flat part gains
 bend_moves : (m₁ m₂ A B a b p q : ℕ) → m₂ ≤ m₁ → A ≤ a + b → A + B ≡ (a + p) + (b + q) → m₁ * A + m₂ * B ≤ (m₁ * a + m₂ * p) + (m₁ * b + m₂ * q)
@@ -58,6 +59,7 @@ amount_sum (FrontLoaded m₁ d m₂) r x y =
     (bend_moves m₁ m₂ (min (x + y) d) (x + y - d) (min x d) (min y d) (x - d) (y - d) (le_of_lt r.falls) (min_sum x y d) (cc (min_split (x + y) d, min_split x d, min_split y d)))
     (le_of_eq (rw native.Mathlib.Nat.add-zero refl))
 amount_sum (Delayed d m) r x y = le_trans (mul-le-mul_left m (omega arith)) (le_of_eq (mul-add m (x + d - d) (y - d)))
+amount_sum None r x y = elim r [ ]
 
 -- a front-loaded curve up to its bend, and past it
 pub front_before : (m₁ d m₂ t : ℕ) → t ≤ d → m₁ * t ≡ amount (FrontLoaded m₁ d m₂) t
@@ -90,6 +92,7 @@ unfolding Rising
 rising_slopes (Straight m) r = (r, r)
 rising_slopes (FrontLoaded m₁ d m₂) r = (r.first, r.last)
 rising_slopes (Delayed d m) r = (r.rate, r.rate)
+rising_slopes None r = elim r [ ]
 
 -- numbers of 32 bits have an amount of 64
 pub amount_fits : (S : Curve) (t : ℕ) → first_slope S < 2 ^ 32 → last_slope S < 2 ^ 32 → t < 2 ^ 32 → amount S t < 2 ^ 64

@@ -278,6 +278,7 @@ unfolding Rising kept_of
 kept_due (Straight m) r bytes t p ps o c b = straight_due m bytes t p ps r.above o (le_of_lt c) b.steep
 kept_due (FrontLoaded m₁ d m₂) r bytes t p ps o c b = front_due m₁ d m₂ bytes t p ps r.first.above r.falls o (le_of_lt c) b.steep b.flat
 kept_due (Delayed d m) r bytes t p ps o c b = delayed_due d m bytes t p ps r.rate.above o c b.steep
+kept_due None r bytes t p ps o c b = elim r [ ]
 
 -- read as the eligible time reads it, a piece of a curve is one of that curve without its delay
 ripe_standing : (S : Curve) (q : Piece) (t : ℕ) → standing S q (t + lead S) ≡ standing (early S) q t
@@ -316,6 +317,7 @@ unfolding Rising kept_of
 kept_early_due (Straight m) r bytes t p ps o c b = straight_due m bytes t p ps r.above o c b.steep
 kept_early_due (FrontLoaded m₁ d m₂) r bytes t p ps o c b = front_due m₁ d m₂ bytes t p ps r.first.above r.falls o c b.steep b.flat
 kept_early_due (Delayed d m) r bytes t p ps o c b = straight_due m bytes t p ps r.rate.above o c b.steep
+kept_early_due None r bytes t p ps o c b = elim r [ ]
 
 -- and the eligible time's, where no more was sent before a piece than is asked for
 pub kept_ripe : (S : Curve) → Rising S → (bytes t : ℕ) (p : Piece) (ps : List Piece) → Orderly (p ∷ ps) → p.sent ≤ bytes

@@ -44,6 +44,7 @@ pub every_in : (P : Piece → Type 0) (p : Piece) (ps : List Piece) → Every P 
 unfolding Every In
 every_in P p (q ∷ qs) h (inl e) = rw e h.0
 every_in P p (q ∷ qs) h (inr i) = every_in P p qs h.1 i
+every_in P p [] h x'' = elim x'' [ ]
 
 -- every piece is at an amount at t, or there is one below it
 pub record Below (S : Curve) (ps : List Piece) (t y : ℕ) : Type 0 where

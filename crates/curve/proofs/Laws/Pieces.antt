@@ -12,7 +12,7 @@ use Rattle.curve.specs.Curves.{latest_bend, amount, in_parts, Rising}
 use Rattle.curve.specs.Pieces.{standing}
 use Rattle.curve.specs.Keeping.{Reaches, lower_of, Stands, BothStand, early}
 use Rattle.curve.specs.declared.Curve.{Curve}
-use Rattle.curve.specs.declared.Curve.TheVariants.{Straight, FrontLoaded, Delayed}
+use Rattle.curve.specs.declared.Curve.TheVariants.{Straight, FrontLoaded, Delayed, None}
 use Rattle.curve.specs.declared.Piece.{Piece}
 use Rattle.curve.specs.declared.Kept.{Kept}
 use Rattle.curve.proofs.Laws.Answers.{least_iff, least_both}
@@ -82,6 +82,7 @@ unfolding Rising
 early_rising (Straight m) r = r
 early_rising (FrontLoaded m₁ d m₂) r = r
 early_rising (Delayed d m) r = r.rate
+early_rising None r = elim r [ ]
 
 -- and it is another curve
 pub delayed_not_early : (d m : ℕ) → early (Delayed d m) ≡ Delayed d m → ⊥
