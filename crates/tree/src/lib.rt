@@ -2,6 +2,7 @@
 // the classes numbered below it; nothing else held with it counts.
 
 #![tactic(auto)]
+
 ghost use Rattle.std.specs.Prelude.{◌≡◌};
 ghost use Rattle.tree.specs.Numbers.{number_of};
 ghost use Rattle.tree.specs.Rules.{ShapeJudged, Judged};

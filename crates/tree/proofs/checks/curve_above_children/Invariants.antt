@@ -1,0 +1,13 @@
+use Prim.Native.Nat.{◌≤◌, ◌-◌}
+use native.Mathlib.Omega.{arith}
+use borrow.Author.Count.{below_none, below_more}
+use borrow.Author.Rules.{rules}
+use Rattle.tree.specs.Rules.{RightPlace, EveryClass}
+use Rattle.curve.proofs.Laws.Answers.{untold_no, untold_yes}
+use Rattle.tree.proofs.checks.curve_above_children.Given as goal
+
+abbrev pub invariant-loop-i : goal.invariant-loop-i
+invariant-loop-i l = (l.i ≤ l.tree.count) × EveryClass (RightPlace l.tree) l.i
+
+abbrev pub decreases-loop-i : goal.decreases-loop-i
+decreases-loop-i l = l.tree.count - l.i

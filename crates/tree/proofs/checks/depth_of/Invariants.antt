@@ -1,0 +1,13 @@
+use Prim.Native.Nat.{suc, ◌+◌, ◌≤◌, ◌<◌}
+use mathlib.Core.Path.{◌≡◌}
+use native.Mathlib.Omega.{arith}
+use borrow.Author.Rules.{rules}
+use Rattle.tree.specs.Trees.{depth}
+use Rattle.tree.proofs.Depths.{lower_parent, depth_root, depth_up}
+use Rattle.tree.proofs.checks.depth_of.Given as goal
+
+abbrev pub invariant-loop-here : goal.invariant-loop-here
+invariant-loop-here l = (l.steps + l.here ≤ l.class) × (l.steps + depth l.tree l.here ≡ depth l.tree l.class)
+
+abbrev pub decreases-loop-here : goal.decreases-loop-here
+decreases-loop-here l = l.here
