@@ -11,7 +11,7 @@ use Rattle.state.specs.Table.{CLASSES}
 use Rattle.state.specs.StepsChoosing.{Stepping}
 use Rattle.state.proofs.Choosing.{count_most, Walked, walked_is, walked_none, walked_below, walked_passive, walked_later, walked_first, walked_falls, lightest_right}
 use Rattle.state.proofs.choice.lightest.Goals as goal
-use Rattle.state.proofs.choice.lightest.Goals.{In-loop-child}
+use Rattle.state.proofs.choice.lightest.Goals.{In-loop-child, then-get-ne0+then-time-least, then-get-ne0+else-time-least, else-get-ne0}
 
 -- the child at which the walk stands is a class
 below : (c : In-loop-child) (tree : Tree) (cs : List Call) → Stepping c.args.words.now tree cs c.args.class
@@ -66,22 +66,21 @@ loop-child-preserved c = λ tree cs s.
     let head = turn.loop-child in
     let m = start.args.words.now in
     let i = start.args.class in
-    let w = head.invariant tree cs s in
+    let w0 = head.invariant tree cs s in
     let some = turn.loop-child-test.true in
     let shows = (s.told.trees head.child (below turn.before.before.before tree cs s).1).sibling in
     let active = c.get.ensures in
-    ⊎_elim
-    (λ came.
-    walked_is m tree i came.3 (came.4 ∙ came.1.ensures) c.get-child-in-loop-child.ensures
-    (walked_first m tree i head.best head.least head.child w some shows (λ e. came.0.taken (active ∙ e)) (omega (arith, came.1.ensures, came.2.taken))))
-    (⊎_elim
-    (λ came.
-    walked_is m tree i came.3 came.4 c.get-child-in-loop-child.ensures
-    (walked_later m tree i head.best head.least head.child w some shows (omega (arith, came.1.ensures, came.2.left))))
-    (λ came.
-    walked_is m tree i came.1 came.2 c.get-child-in-loop-child.ensures
-    (walked_passive m tree i head.best head.least head.child w some shows (sym active ∙ came.0.left))))
-    c.if-get-ne0.branch
+    elim c.if-get-ne0.branch [
+      then-get-ne0+then-time-least w ↦
+          walked_is m tree i w.best-is (w.least-is ∙ w.get-time.ensures) c.get-child-in-loop-child.ensures
+          (walked_first m tree i head.best head.least head.child w0 some shows (λ e. w.if-get-ne0.true (active ∙ e)) (omega (arith, w.get-time.ensures, w.if-time-least.true)))
+      | then-get-ne0+else-time-least w ↦
+          walked_is m tree i w.best-is w.least-is c.get-child-in-loop-child.ensures
+          (walked_later m tree i head.best head.least head.child w0 some shows (omega (arith, w.get-time.ensures, w.if-time-least.false)))
+      | else-get-ne0 w ↦
+          walked_is m tree i w.best-is w.least-is c.get-child-in-loop-child.ensures
+          (walked_passive m tree i head.best head.least head.child w0 some shows (sym active ∙ w.if-get-ne0.false))
+    ]
 
 pub returns : goal.returns
 returns c = λ tree cs s.

@@ -9,7 +9,7 @@ use Rattle.state.specs.Steps.{NextRipe, untimed, timed}
 use Rattle.state.proofs.NextTimes.{ripe_real, ripe_fair}
 use borrow.Author.Rules.{rules}
 use Rattle.state.proofs.leaf.time_next.Goals as goal
-use Rattle.state.proofs.leaf.time_next.Goals.{Else-get-eq0, Joined-rule}
+use Rattle.state.proofs.leaf.time_next.Goals.{Else-get-eq0, Joined-rule, in-RealTime, in-Fair}
 
 -- where the leaf has a curve
 some : (c : Else-get-eq0) → at c.args.words.now c.args.class KIND ≡ 0 → ⊥
@@ -19,10 +19,10 @@ some c e = c.if-get-eq0.false (c.get.ensures ∙ e)
 ripened : (c : Joined-rule)
     → NextRipe c.args.rule c.args.words.now c.args.class c.match-rule.eligible
 ripened c =
-    let start = c in
-    ⊎_elim
-    (λ w. ripe_real start.args.rule start.args.words.now start.args.class w.1.given.1 w.4 w.3.ensures)
-    (λ w. ripe_fair start.args.rule start.args.words.now start.args.class w.1.given.1 w.4 w.3.ensures) c.match-rule.branch
+    elim c.match-rule.branch [
+      in-RealTime w ↦ rw w.eligible-is (ripe_real c.args.rule c.args.words.now c.args.class w.in-RealTime.is refl w.ripe_next-eligible.ensures)
+      | in-Fair w ↦ rw w.eligible-is (ripe_fair c.args.rule c.args.words.now c.args.class w.in-Fair.is refl w.get-eligible.ensures)
+    ]
 
 pub returns : goal.returns
 returns c =
