@@ -7,7 +7,7 @@ use crate::Order;
 use crate::format::ENTRY;
 
 // An entry of the contents: offset and length of a body, and where the next entry stands.
-#[derive(Drop)]
+#[derive(Clone, Copy)]
 pub(crate) struct Entry {
     pub(crate) offset: u32,
     pub(crate) bytes: u32,
@@ -29,7 +29,7 @@ fn read_entry(file: &[u8], order: Order, place: usize) -> Entry
 }
 
 // A reader of the contents: the lent file, its byte order, and the place of the next entry.
-#[derive(Drop)]
+#[derive(Clone, Copy)]
 pub(crate) struct Reader<'a> {
     pub(crate) file: &'a [u8],
     pub(crate) order: Order,

@@ -15,7 +15,7 @@ use Rattle.state.proofs.leaf.time_first.Goals as goal
 use Rattle.state.proofs.leaf.time_first.Goals.{After-add_piece, Else-get-eq0, Start}
 
 abbrev start : Else-get-eq0 → Start
-start c = c
+start c = c.before.before
 
 curved : (tree : Tree) (cs : List Call) (c : Else-get-eq0)
     → BeforeTiming (start c).args.words.now tree cs (start c).args.class (start c).args.tick (start c).args.length
@@ -23,7 +23,7 @@ curved : (tree : Tree) (cs : List Call) (c : Else-get-eq0)
 curved tree cs c b = timing_curved b _ c.get.ensures c.if-get-eq0.false
 
 -- what both times ask of the table with the new piece
-timable : (c : After-add_piece) → Timable c.add_piece.new.0 (start c.before.before).args.class (start c.before.before).args.length
+timable : (c : After-add_piece) → Timable c.add_piece.new.words (start c.before.before).args.class (start c.before.before).args.length
 timable c =
     let e = c in
     let pre = e.requires in
