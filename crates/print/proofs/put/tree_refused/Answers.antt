@@ -1,0 +1,16 @@
+-- `print::put::tree_refused` meets its contract: the refusal's number, and then the class as the last of the line.
+-- Assumes nothing.
+use borrow.Author.Rules.{rules}
+use native.Mathlib.Omega.{arith}
+use Prim.Native.Nat.{ℕ}
+use mathlib.Core.Path.{ap, sym}
+use mathlib.Core.List.{[], ◌∷◌, ◌++◌}
+use Rattle.wording.specs.Decimal.{decimal}
+use Rattle.print.specs.Spelled.{refused_word, class_word}
+use Rattle.print.specs.Lines.{further, line_of}
+use Rattle.print.proofs.Stores.{then, same_as}
+use Rattle.print.proofs.put.tree_refused.Goals as goal
+
+pub returns : goal.returns
+unfolding further line_of
+returns c = same_as (ap (λ (k : ℕ). refused_word ++ further (decimal k ∷ class_word ∷ decimal c.args.class ∷ [])) (sym c.number.ensures)) (then c.named-end.ensures.0 c.last.ensures.0)
