@@ -63,7 +63,7 @@ fn print_file(rt: &(impl Files + Print + Eprint), name: &[u8]) -> io::Result<()>
 
 fn print_argument(rt: &(impl Env + Files + Print + Eprint), i: usize) -> io::Result<()> {
     let mut name = [0u8; ARGUMENT];
-    let n = console::argument(rt, i, &mut name)?;
+    let n = console::word(rt, i, &mut name);
     console::text(rt, &name[..n])?;
     console::text(rt, b"\n")?;
     print_file(rt, &name[..n])
