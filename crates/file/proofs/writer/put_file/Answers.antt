@@ -17,17 +17,10 @@ use Rattle.file.specs.Writing.{header_words, contents_words, bodies_words, file_
 use Rattle.file.proofs.WriteLaws.Stores.{sets_front}
 use Rattle.file.proofs.WriteLaws.Words.{words_on}
 use Rattle.file.proofs.WriteLaws.Bodies.{contents_within, contents_length, file_length}
-use Rattle.file.proofs.writer.put_file.Statement.{statement}
-use Rattle.file.proofs.writer.put_file.Tie as tie
+use Rattle.file.proofs.writer.put_file.Goals as goal
 
-total-bytes-requires : tie.Need-total-bytes-requires
-total-bytes-requires c κs = search rules
-
-cast-if1 : tie.Need-overflow-cast-if1
-cast-if1 c = search rules
-
-returns : tie.Need-returns
-returns c =
+pub returns-then-out-total : goal.returns-then-out-total
+returns-then-out-total c =
     record {
       verdict = Refused SmallBuffer 0;
       judged = passes _ _ (Refused SmallBuffer 0) (search rules) (broken refl (record { zero = refl; fault = λ room. omega arith }));
@@ -35,28 +28,24 @@ returns c =
       buffer = refl;
     }
 
-put-header-requires : tie.Need-put-header-requires
-put-header-requires c κs = omega (arith, contents_within c.before.before.before.before.args.tree)
+-- clauses: total_value header_bytes_in_bounds
+pub put_header-requires : goal.put_header-requires
+put_header-requires c = omega (arith, contents_within c.args.tree)
 
-put-contents-requires : tie.Need-put-contents-requires
-put-contents-requires c κs = omega (arith, contents_within c.before.before.before.before.before.before.before.before.args.tree)
+-- clauses: right_count count_in_bounds
+pub put_contents-requires : goal.put_contents-requires
+put_contents-requires c = omega (arith, contents_within c.args.tree)
 
-put-bodies-requires : tie.Need-put-bodies-requires
-put-bodies-requires c κs = search rules
-
-same_length : tie.Need-same-length
-same_length c = search rules
-
-returns-2 : tie.Need-returns-2
+pub returns : goal.returns
 unfolding file_in file_words
-returns-2 c =
-    let start = c.before.before.before.before.before.before.before.before.before.before.before.before.before.before.before in
+returns c =
+    let start = c in
     let tree = start.args.tree in
     let old = start.args.out.now in
-    let total = c.before.before.before.before.before.before.before.before.before.before.before.before.before.total-bytes in
-    let header = c.before.before.before.before.before.before.before.before.before.before.put-header in
-    let contents = c.before.before.before.before.before.before.put-contents in
-    let bodies = c.before.before.put-bodies in
+    let total = c.total_bytes-total in
+    let header = c.put_header in
+    let contents = c.put_contents in
+    let bodies = c.put_bodies in
     record {
       verdict = Right;
       judged = passes tree _ Right start.requires (kept (omega arith) refl);
@@ -69,16 +58,3 @@ returns-2 c =
           ∙ sets_front old (file_of tree) (omega (arith, file_length tree Big))
           ∙ ap (λ (n : ℕ). file_of tree ++ drop n old) (file_length tree Big);
     }
-
-pub put-file-spec : {M : Type 1} → statement M
-put-file-spec =
-    tie.close
-    (tie.spec
-    total-bytes-requires
-    cast-if1
-    returns
-    put-header-requires
-    put-contents-requires
-    put-bodies-requires
-    same_length
-    returns-2)

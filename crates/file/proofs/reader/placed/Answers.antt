@@ -6,18 +6,15 @@ use mathlib.Core.List.{List}
 use mathlib.Core.Logic.{⊎_elim}
 use native.Mathlib.Omega.{arith}
 use lib.ListN.{length}
-use borrow.Author.Rules.{rules}
 use Rattle.curve.specs.Curves.{Within}
 use Rattle.tree.specs.Rules.{Judged, kept}
 use Rattle.tree.specs.declared.Tree.{Tree}
 use Rattle.tree.specs.declared.Verdict.TheVariants.{Right}
 use Rattle.file.specs.Format.{order_of, count_of, tree_by, ReadsAs}
 use Rattle.file.specs.Fronts.{most_file_bytes, AtHand}
-use Rattle.file.specs.Steps.{Opened}
 use Rattle.file.proofs.ReadLaws.Fronts.{header_front, places_front, length_front, whole_at_hand, too_long}
 use Rattle.file.proofs.ReadLaws.Judging.{header_opened, header_passed, all_placed, bodies_judged, reads_refused}
-use Rattle.file.proofs.reader.placed.Statement.{statement}
-use Rattle.file.proofs.reader.placed.Tie as tie
+use Rattle.file.proofs.reader.placed.Goals as goal
 
 -- all that is given is at hand, or as much as the longest right file has
 all_at_hand : (bytes : List ℕ) (given : ℕ) → AtHand bytes given → given ≤ length bytes → given ≡ length bytes
@@ -26,41 +23,32 @@ all_at_hand bytes given hand all = ⊎_elim (λ e. e) (λ l. omega (arith, l.1))
 part_at_hand : (bytes : List ℕ) (given : ℕ) → AtHand bytes given → length bytes < given → most_file_bytes ≤ length bytes
 part_at_hand bytes given hand more = ⊎_elim (λ e. absurd (omega arith)) (λ l. l.0) hand
 
-returns : tie.Need-returns
-returns c file front =
-    let a = c.before.before.before in
-    let pre = a.requires.0 in
+pub returns-then-front-given : goal.returns-then-front-given
+returns-then-front-given c file front =
+    let a = c in
+    let pre = a.requires.at_hand in
     let bytes = a.args.front.now in
     let header = header_front bytes _ file front _ pre.1 in
     let opened = header_opened file _ {order = order_of file} {count = count_of file} header refl refl in
-    let few = subst (Within 2 64) a.requires.1.0.counted a.requires.1.0.within in
-    let placed = all_placed file (places_front bytes _ file front few Right (kept a.requires.1.1 refl)) in
+    let few = subst (Within 2 64) a.requires.opened.0.counted a.requires.opened.0.within in
+    let placed = all_placed file (places_front bytes _ file front few Right (kept a.requires.opened.1 refl)) in
     reads_refused file
     (header_passed file _ _ _ header
     (too_long file opened.within placed
-    (omega (arith, opened.right.total, length_front bytes _ file front pre.1, part_at_hand bytes _ pre.0 c.before.if1.true))))
+    (omega (arith, opened.right.total, length_front bytes _ file front pre.1, part_at_hand bytes _ pre.0 c.if-front-given.true))))
     c.refused.ensures.0 c.refused.ensures.1
 
-tree-of-requires : tie.Need-tree-of-requires
-tree-of-requires c κs =
-    let a = c.before.before in
-    let e = all_at_hand a.args.front.now _ a.requires.0.0 (omega arith) in
-    (subst (λ (n : ℕ). Opened a.args.front.now n a.args.order a.args.count) e a.requires.1.0, a.requires.1.1)
-
-returns-2 : tie.Need-returns-2
-returns-2 c file front =
-    let a = c.before.before.before.before in
-    let pre = a.requires.0 in
+pub returns : goal.returns
+returns c file front =
+    let a = c in
+    let pre = a.requires.at_hand in
     let bytes = a.args.front.now in
     let v = c.judged.result.verdict in
-    let e = c.before.tree_of.ensures in
+    let e = c.tree_of.ensures in
     let own = all_at_hand bytes _ pre.0 (omega arith) in
-    let few = subst (Within 2 64) a.requires.1.0.counted a.requires.1.0.within in
+    let few = subst (Within 2 64) a.requires.opened.0.counted a.requires.opened.0.within in
     subst (λ (f : List ℕ). ReadsAs f v c.judged.result.tree) (whole_at_hand bytes _ file front pre.1 (omega arith))
     (record {
-      judged = header_passed bytes _ _ v (pre.1 (length bytes) (omega arith)) (bodies_judged bytes v few a.requires.1.1 (subst (λ (t : Tree). Judged t v) e c.judged.ensures.0));
+      judged = header_passed bytes _ _ v (pre.1 (length bytes) (omega arith)) (bodies_judged bytes v few a.requires.opened.1 (subst (λ (t : Tree). Judged t v) e c.judged.ensures.0));
       given = c.judged.ensures.1 ∙ ap (λ (t : Tree). tree_by t v) e;
     })
-
-pub placed-spec : {M : Type 1} → statement M
-placed-spec = tie.close (tie.spec (λ c κs. search rules) returns tree-of-requires (λ c κs. search rules) returns-2)
