@@ -104,7 +104,7 @@ module _ (number : ℕ) (class : Class) (narrow : NarrowClass number class) wher
   unfolding class_in class_of
   class_says =
       rw (
-        number_next number narrow.own_val others,
+        number_next number narrow.own others,
         after_next (decimal number) others (decimal_word number),
         number_labelled class.parent narrow.parent parent_word third parent_word_lem,
         after_next parent_word second parent_word_lem,

@@ -7,22 +7,15 @@ use lib.Dec.{eqb}
 use borrow.Author.Rules.{rules}
 use borrow.Author.Tests.{eq-eqb, ne_eqb}
 use Rattle.fair.specs.StepsWaking.{other_in}
-use Rattle.fair.proofs.is_other.Statement.{statement}
-use Rattle.fair.proofs.is_other.Tie as tie
 use Rattle.fair.proofs.is_other.Reads as reads
 use Rattle.fair.proofs.is_other.Lts as lts
 use Rattle.state.proofs.table.get.Reads as get-reads
+use Rattle.fair.proofs.is_other.Goals as goal
 
-returns : tie.Need-returns
+pub returns-then-child-class : goal.returns-then-child-class
 unfolding other_in
-returns c = rw (eq-eqb _ _ c.if1.true) refl
+returns-then-child-class c = rw (eq-eqb _ _ c.if-child-class.true) refl
 
-get-requires : tie.Need-get-requires
-get-requires c κs = search rules
-
-returns-2 : tie.Need-returns-2
+pub returns : goal.returns
 unfolding other_in
-returns-2 c = rw (ne_eqb _ _ c.before.if1.false) (ap (λ (x : ℕ). not (eqb x 0)) c.get.ensures)
-
-pub is-other-spec : {M : Type 1} → statement M
-is-other-spec = tie.close (tie.spec returns get-requires returns-2)
+returns c = rw (ne_eqb _ _ c.if-child-class.false) (ap (λ (x : ℕ). not (eqb x 0)) c.get.ensures)

@@ -1,0 +1,35 @@
+-- `fair::start_fair` meets its contract: the mark and the kept piece are the definitions', and are stored before the virtual time is worked out.
+-- Assumes nothing.
+use mathlib.Core.Path.{◌≡◌, refl, ◌∙◌}
+use native.Mathlib.Omega.{arith}
+use borrow.Author.Rules.{rules}
+use Rattle.fair.proofs.WakingCells.{start_raises, start_done}
+use Rattle.fair.proofs.start_fair.Reads as reads
+use Rattle.fair.proofs.start_fair.Lts as lts
+use Rattle.curve.proofs.pieces.lower.Reads as lower-reads
+use Rattle.fair.proofs.bring_up.Reads as bring-up-reads
+use Rattle.fair.proofs.fair_piece.Reads as fair-piece-reads
+use Rattle.fair.proofs.larger.Reads as larger-reads
+use Rattle.fair.proofs.mark_by_children.Reads as mark-by-children-reads
+use Rattle.fair.proofs.share_of.Reads as share-of-reads
+use Rattle.state.proofs.table.get.Reads as get-reads
+use Rattle.state.proofs.table.put.Reads as put_reads
+use Rattle.fair.proofs.start_fair.Goals as goal
+
+pub bring_up-requires : goal.bring_up-requires
+bring_up-requires c =
+    let b = c.requires.holds in
+    start_raises c.args.words.now c.requires.it c.args.parent c.args.class b _ _ _ c.larger-mark.result c.lower-kept.result
+    c.put.ensures c.put-2.ensures c.put-3.ensures
+    (c.lower-kept.ensures
+    ∙ simp (c.share_of.ensures, c.fair_piece.ensures, c.larger-mark.ensures, c.get-2.ensures, c.get.ensures, c.mark_by_children.ensures c.requires.it b.family))
+
+pub returns : goal.returns
+returns c = λ tree b.
+    start_done c.args.words.now tree c.args.parent c.args.class b _ _ _ c.larger-mark.result c.lower-kept.result
+    c.put.ensures c.put-2.ensures c.put-3.ensures
+    (c.lower-kept.ensures
+    ∙ simp (c.share_of.ensures, c.fair_piece.ensures, c.larger-mark.ensures, c.get-2.ensures, c.get.ensures, c.mark_by_children.ensures tree b.family))
+    _
+    (c.larger-mark.ensures ∙ simp (c.get.ensures, c.mark_by_children.ensures tree b.family))
+    c.bring_up.ensures
