@@ -25,8 +25,8 @@ loop-at-preserved c =
     let end = c.line_end-end in
     let more = line_more l.draft (take (end.result - l.at) (drop l.at text)) in
     record {
-      lines = omega (arith, ap (λ (d : Draft). d.lines) c.with_line-draft.ensures, more, end.ensures.0);
-      rest = ap (λ (d : Draft). with_lines d (lines_of (drop (end.result + 1) text))) c.with_line-draft.ensures ∙ sym (lines_on_lem text l.at end.result l.draft (omega arith) end.ensures.0) ∙ l.invariant.rest;
+      lines = omega (arith, ap (λ (d : Draft). d.lines) c.with_line-draft.ensures, more, end.ensures.counted);
+      rest = ap (λ (d : Draft). with_lines d (lines_of (drop (end.result + 1) text))) c.with_line-draft.ensures ∙ sym (lines_on_lem text l.at end.result l.draft (omega arith) end.ensures.counted) ∙ l.invariant.rest;
     }
 
 pub returns : goal.returns
