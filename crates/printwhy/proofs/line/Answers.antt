@@ -11,28 +11,15 @@ use Rattle.print.proofs.Stores.{then, same_as}
 use Rattle.printwhy.specs.Spelled.{leaf_word}
 use Rattle.printwhy.specs.Lines.{why_words_of, why_line_of}
 use borrow.Author.Rules.{rules}
-use Rattle.printwhy.proofs.line.Statement.{statement}
-use Rattle.printwhy.proofs.line.Tie as tie
+use Rattle.printwhy.proofs.line.Goals as goal
 
-returns : tie.Need-returns
+pub returns : goal.returns
 unfolding further why_line_of
 returns c =
-    let start = c.before.before.before.before.before.before.before.before.before.before.before.before.before.before.before.args in
-    let leaf = c.before.before.before.before.before.before.before.before.before.before.before.named.ensures in
-    let colons = c.before.before.before.before.before.before.text.ensures in
-    let reason = c.before.before.why.ensures in (
+    let start = c.args in
+    let leaf = c.named-numbered.ensures in
+    let colons = c.text-end.ensures in
+    let reason = c.why.ensures in (
       same_as (ap (λ (s : List ℕ). leaf_word ++ (space ∷ s)) (append_assoc (decimal start.leaf) (colon ∷ []) (further (why_words_of start.reason)))) (then leaf.0 (then colons reason.0)),
       omega (arith, leaf.1, colons.ends, reason.1),
     )
-
-pub line-spec : {M : Type 1} → statement M
-line-spec =
-    tie.close
-    (tie.spec
-    (λ c. search rules)
-    (λ c κs. search rules)
-    (λ c. search rules)
-    (λ c κs. search rules)
-    (λ c κs. search rules)
-    (λ c. search rules)
-    returns)
