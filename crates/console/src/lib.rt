@@ -130,6 +130,16 @@ pub fn argument(rt: &impl Env, at: usize, buffer: &mut [u8]) -> io::Result<usize
     }
 }
 
+// Puts the argument at that place at the start of the buffer: no bytes where there is none, or where it is too long.
+pub fn word(rt: &impl Env, at: usize, buffer: &mut [u8]) -> usize
+    ensures { Within result buffer.new }
+{
+    match argument(rt, at, buffer) {
+        Ok(n) => n,
+        Err(_) => 0,
+    }
+}
+
 // The same of a file's name. Where there is none, that is said of `what`.
 pub fn name(rt: &(impl Env + Eprint), at: usize, what: &[u8], buffer: &mut [u8]) -> Option<usize>
     ensures { IfSome result (λ n. Within n buffer.new) }
@@ -143,12 +153,17 @@ pub fn name(rt: &(impl Env + Eprint), at: usize, what: &[u8], buffer: &mut [u8])
     }
 }
 
-// Opens the file of that name for reading. A name is text.
-pub fn open<R: Files>(rt: &R, name: &[u8]) -> io::Result<R::File> {
+// A file's name as a path, which is text.
+pub fn path(name: &[u8]) -> io::Result<&str> {
     match str::from_utf8(name) {
-        Ok(path) => fs::open(rt, path),
+        Ok(path) => Ok(path),
         Err(_) => Err(io::Error::from(ErrorKind::InvalidFilename)),
     }
+}
+
+// Opens the file of that name for reading.
+pub fn open<R: Files>(rt: &R, name: &[u8]) -> io::Result<R::File> {
+    fs::open(rt, path(name)?)
 }
 
 // Reads until the buffer is full or the file ends.

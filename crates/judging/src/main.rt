@@ -2,99 +2,112 @@
 // down.
 
 #![tactic(auto)]
+
 mod turns;
 
-use console::Status;
+use console::{ARGUMENT, Status};
 use judge::Judgement;
 use judgetext::{Progress, Standing};
 use print::{Answer, Wrong};
 use printlog::LogLine;
+use std::io;
+use std::rt::{Env, Files};
 use tree::Tree;
 use turns::Read;
 use wording::Operand;
 
-fn main() {
-    console::end(run());
+fn main(rt: HostRuntime) {
+    let status = run(&rt);
+    console::end(&rt, status);
 }
 
-fn run() -> Status {
-    if os::arg_count() != 4 {
-        return console::usage(b"usage: judge TREE FIRST LOG\n");
+fn run(rt: &(impl Env + Files + Print + Eprint)) -> Status {
+    if console::arguments(rt) != 4 {
+        return console::usage(rt, b"usage: judge TREE FIRST LOG\n");
     }
-    let mut word = io::buffer();
-    let n = os::arg(2, &mut word);
+    let mut word = [0u8; ARGUMENT];
+    let n = console::word(rt, 2, &mut word);
     let operand = wording::number(&word[..n]);
     let Operand::Of(first) = operand else {
-        return console::usage(b"judge: FIRST is not a number of 32 bits\n");
+        return console::usage(rt, b"judge: FIRST is not a number of 32 bits\n");
     };
-    judge_from(first)
+    judge_from(rt, first)
 }
 
-fn judge_from(first: u32) -> Status {
-    let told = console::tree_argument(1);
+fn judge_from(rt: &(impl Env + Files + Print + Eprint), first: u32) -> Status {
+    let told = console::tree_argument(rt, 1);
     if !told.is_there {
         return Status::Failed;
     }
-    let mut name = io::buffer();
-    let n = os::arg(3, &mut name);
-    if os::errno() != 0 {
-        os::fail(b"LOG");
+    let mut name = [0u8; ARGUMENT];
+    let Some(n) = console::name(rt, 3, b"LOG", &mut name) else {
         return Status::Failed;
-    }
-    log_file(told.tree, first, &name[..n])
+    };
+    log_file(rt, told.tree, first, &name[..n])
 }
 
-fn log_file(tree: Tree, first: u32, name: &[u8]) -> Status {
-    let fd = os::open_read(name);
-    if fd < 0 {
-        os::fail(name);
-        return Status::Failed;
-    }
-    let read = turns::judge(tree, first, fd, name);
-    libc::close(fd);
+fn log_file(rt: &(impl Files + Print + Eprint), tree: Tree, first: u32, name: &[u8]) -> Status {
+    let mut file = match console::open(rt, name) {
+        Ok(file) => file,
+        Err(error) => {
+            console::fail(rt, name, error);
+            return Status::Failed;
+        }
+    };
+    let read = turns::judge(rt, tree, first, &mut file, name);
     match read {
-        Read::Judged { at } => tell(at),
-        Read::Refused { why, class } => failed(console::say(Answer::TreeRefused { why, class })),
+        Read::Judged { at } => tell(rt, at),
+        Read::Refused { why, class } => failed(console::say(
+            rt,
+            Answer::TreeRefused { why, class },
+        )),
         Read::Unread => Status::Failed,
     }
 }
 
 // Prints what a text is judged as that was read to its end, or up to what is wrong in it.
-fn tell(at: Progress) -> Status {
+fn tell(rt: &(impl Print + Eprint), at: Progress) -> Status {
     let standing = at.standing;
     if let Standing::NotANumber { line } = standing {
         let wrong = Wrong::NotANumber;
-        return failed(console::say(Answer::Faulty {
-            number: line,
-            wrong,
-        }));
+        return failed(console::say(
+            rt,
+            Answer::Faulty {
+                number: line,
+                wrong,
+            },
+        ));
     }
     match judgetext::judgement(at) {
-        Judgement::Accepted => console::done(say(LogLine::Accepted {
-            records: at.records,
-        })),
-        Judgement::TreeRefused { why, class } => failed(console::say(Answer::TreeRefused {
-            why,
-            class,
-        })),
-        Judgement::Malformed { record } => failed(say(LogLine::Malformed { record })),
-        Judgement::Refused { record, why } => failed(say(LogLine::Refused { record, why })),
+        Judgement::Accepted => console::done(say(
+            rt,
+            LogLine::Accepted {
+                records: at.records,
+            },
+        )
+        .is_ok()),
+        Judgement::TreeRefused { why, class } => failed(console::say(
+            rt,
+            Answer::TreeRefused { why, class },
+        )),
+        Judgement::Malformed { record } => failed(say(rt, LogLine::Malformed { record })),
+        Judgement::Refused { record, why } => failed(say(rt, LogLine::Refused { record, why })),
         Judgement::AnotherChoice { record, ours } => {
-            say(LogLine::AnotherChoice { record });
+            let _ = say(rt, LogLine::AnotherChoice { record });
             let answer = print::departure(ours);
-            failed(say(LogLine::Ours { answer }))
+            failed(say(rt, LogLine::Ours { answer }))
         }
     }
 }
 
 // The status of what is not accepted, whether it could be said or not.
-fn failed(is_said: bool) -> Status {
+fn failed(_said: io::Result<()>) -> Status {
     Status::Failed
 }
 
-// A line. Whether it could be written.
-fn say(line: LogLine) -> bool {
+// A line.
+fn say(rt: &(impl Print + Eprint), line: LogLine) -> io::Result<()> {
     let mut out = [0u8; printlog::LINE];
     let end = printlog::line(line, &mut out);
-    console::text(&out[..end])
+    console::text(rt, &out[..end])
 }

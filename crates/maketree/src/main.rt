@@ -1,35 +1,37 @@
 // Makes a class-tree file from the text of a tree, as docs/FORMS.md sets both down.
 
 #![tactic(auto)]
+
 mod saving;
 
-use console::Status;
+use console::{ARGUMENT, Status, TURN};
 use file::writer::Written;
 use print::Answer;
+use std::rt::{Env, Files};
 use tree::Tree;
 use treetext::Fault;
 
-fn main() {
-    console::end(make());
+fn main(rt: HostRuntime) {
+    let status = make(&rt);
+    console::end(&rt, status);
 }
 
-fn make() -> Status {
-    if os::arg_count() != 3 {
-        return console::usage(b"usage: maketree TEXT TREE\n");
+fn make(rt: &(impl Env + Files + Print + Eprint)) -> Status {
+    if console::arguments(rt) != 3 {
+        return console::usage(rt, b"usage: maketree TEXT TREE\n");
     }
-    let mut name = io::buffer();
-    let n = os::arg(1, &mut name);
-    if os::errno() != 0 {
-        os::fail(b"TEXT");
+    let mut name = [0u8; ARGUMENT];
+    let Some(n) = console::name(rt, 1, b"TEXT", &mut name) else {
         return Status::Failed;
-    }
-    text_file(&name[..n])
+    };
+    text_file(rt, &name[..n])
 }
 
 // Reads the text, and goes on with its tree.
-fn text_file(name: &[u8]) -> Status {
-    let mut bytes = io::large_buffer();
+fn text_file(rt: &(impl Env + Files + Print + Eprint), name: &[u8]) -> Status {
+    let mut bytes = [0u8; TURN];
     let got = console::read_file(
+        rt,
         name,
         &mut bytes,
         b"longer than 65536 bytes, no text of a tree",
@@ -42,25 +44,28 @@ fn text_file(name: &[u8]) -> Status {
     let fault = draft.fault;
     match fault {
         Fault::At { line, wrong } => {
-            console::say(Answer::Faulty {
-                number: line,
-                wrong,
-            });
+            let _ = console::say(
+                rt,
+                Answer::Faulty {
+                    number: line,
+                    wrong,
+                },
+            );
             Status::Failed
         }
-        Fault::Nowhere => tree_file(draft.tree),
+        Fault::Nowhere => tree_file(rt, draft.tree),
     }
 }
 
 // Writes the tree's file into memory, and saves it where it is not refused.
-fn tree_file(tree: Tree) -> Status {
-    let mut bytes = io::buffer();
+fn tree_file(rt: &(impl Env + Files + Print + Eprint), tree: Tree) -> Status {
+    let mut bytes = [0u8; 4096];
     let written = file::writer::write(tree, &mut bytes);
     match written {
         Written::Refused { why, class } => {
-            console::say(Answer::TreeRefused { why, class });
+            let _ = console::say(rt, Answer::TreeRefused { why, class });
             Status::Failed
         }
-        Written::Bytes(total) => saving::save(&bytes[..total as usize]),
+        Written::Bytes(total) => saving::save(rt, &bytes[..total as usize]),
     }
 }

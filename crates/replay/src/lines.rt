@@ -5,8 +5,8 @@ ghost use Rattle.print.specs.Promises.{Within, line_room};
 ghost use Rattle.replay.specs.Replies.{StartReplied, ArriveReplied, DepartReplied, FirstReplied, LaterReplied, Replied, Told, Replayed, CallPrinted, before_lines};
 
 use calls::Line;
-use records::Entry;
 use print::{Answer, LINE, Wrong};
+use records::Entry;
 use rules::Departure;
 use state::table::{Lengths, Words};
 use tree::Tree;

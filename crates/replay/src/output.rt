@@ -4,10 +4,10 @@ ghost use Rattle.std.specs.Prelude.{◌≤◌, length};
 ghost use Rattle.replay.specs.Text.{Queued};
 
 // Writes the bytes that wait. Whether they could be written.
-pub fn flush(out: &[u8], used: usize) -> bool
+pub fn flush(rt: &(impl Print + Eprint), out: &[u8], used: usize) -> bool
     requires { used ≤ length out.now }
 {
-    console::text(&out[..used])
+    console::text(rt, &out[..used]).is_ok()
 }
 
 // So many bytes wait, and whether those before could be written where they had to be.
@@ -18,12 +18,12 @@ pub struct Waiting {
 }
 
 // A line more: behind the bytes that wait, or in front once they are written.
-pub fn queue(out: &mut [u8], used: usize, line: &[u8]) -> Waiting
+pub fn queue(rt: &(impl Print + Eprint), out: &mut [u8], used: usize, line: &[u8]) -> Waiting
     requires { (used ≤ length out.old) × (length line.now ≤ length out.old) }
     ensures { Queued out.old used line.now out.new result.used }
 {
     if out.len() - used < line.len() {
-        let is_well = flush(out, used);
+        let is_well = flush(rt, out, used);
         let used = print::put::text(out, 0, line);
         return Waiting { used, is_well };
     }

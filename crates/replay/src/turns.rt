@@ -7,8 +7,10 @@ ghost use Rattle.replay.specs.Text.{KeptInFront, Finished};
 use crate::lines::Form;
 use crate::output::Waiting;
 use crate::{lines, output};
+use console::TURN;
 use print::LINE;
 use state::table::{CELLS, Lengths, PLACES, Words};
+use std::io::Read;
 use tree::Tree;
 
 // How far the reading has come: the text between is not replayed yet, so many printed bytes wait to be written, whether
@@ -23,16 +25,23 @@ struct Window {
 }
 
 // Replays the calls of the open file over the tree. Whether all were replayed, and all answers written.
-pub fn replay(form: Form, tree: Tree, fd: i32, name: &[u8]) -> bool {
+pub fn replay(
+    rt: &(impl Print + Eprint),
+    form: Form,
+    tree: Tree,
+    file: &mut impl Read,
+    name: &[u8],
+) -> bool {
     let mut words = [0u64; CELLS];
     let mut lengths = [0u16; PLACES];
-    let mut text = io::large_buffer();
-    let mut out = io::large_buffer();
+    let mut text = [0u8; TURN];
+    let mut out = [0u8; TURN];
     sched::start(tree::empty(), 0, &mut words, &mut lengths);
     turns(
+        rt,
         form,
         tree,
-        fd,
+        file,
         name,
         &mut words,
         &mut lengths,
@@ -44,9 +53,10 @@ pub fn replay(form: Form, tree: Tree, fd: i32, name: &[u8]) -> bool {
 // Each turn replays a line of `text`, or reads more where it has no whole line. A proved loop has to end, and nothing
 // says that a file does: so the turns are counted down, from a number that no run uses up.
 fn turns(
+    rt: &(impl Print + Eprint),
     form: Form,
     tree: Tree,
-    fd: i32,
+    file: &mut impl Read,
     name: &[u8],
     words: &mut Words,
     lengths: &mut Lengths,
@@ -67,33 +77,43 @@ fn turns(
             let next = to + 1;
             run = lines::replay(tree, words, lengths, &text[from..to], &mut line, run);
             let n = run.printed;
-            at = printed(at, next, output::queue(out, at.used, &line[..n]));
+            at = printed(at, next, output::queue(rt, out, at.used, &line[..n]));
         } else if text.len() <= end - from {
             run = lines::overlong(&mut line, run);
             let n = run.printed;
-            at = printed(at, from, output::queue(out, at.used, &line[..n]));
+            at = printed(at, from, output::queue(rt, out, at.used, &line[..n]));
         } else {
-            let is_written = output::flush(out, at.used);
-            at = refill(fd, name, text, from, end, both(at.is_well, is_written));
+            let is_written = output::flush(rt, out, at.used);
+            let is_well = both(at.is_well, is_written);
+            at = refill(rt, file, name, text, from, end, is_well);
         }
         left -= 1;
     }
-    let is_written = output::flush(out, at.used);
+    let is_written = output::flush(rt, out, at.used);
     is_written && at.is_well && run.is_going
 }
 
 // Moves the text between to the front, and reads more into the room behind it. A last line that has no end is given one.
-fn refill(fd: i32, name: &[u8], text: &mut [u8], from: usize, end: usize, is_well: bool) -> Window
+fn refill(
+    rt: &impl Eprint,
+    file: &mut impl Read,
+    name: &[u8],
+    text: &mut [u8],
+    from: usize,
+    end: usize,
+    is_well: bool,
+) -> Window
     requires { (from ≤ end) × (end ≤ length text.old) × (end - from < length text.old) }
     ensures { (result.from ≡ 0) × (result.used ≡ 0) × (result.end ≤ length text.new) }
 {
     let kept = keep(text, from, end);
-    let got = libc::read(fd, &mut text[kept..]);
-    if got < 0 {
-        os::fail(name);
-        return filled(0, false);
-    }
-    let n = io::count(got, &text[kept..]);
+    let n = match file.read(&mut text[kept..]) {
+        Ok(n) => n,
+        Err(error) => {
+            console::fail(rt, name, error);
+            return filled(0, false);
+        }
+    };
     if n == 0 {
         return filled(finish(text, kept), is_well);
     }

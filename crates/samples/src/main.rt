@@ -1,73 +1,78 @@
 // Reads each class-tree file that its arguments name, whole and in bursts, writes what it finds, and prints how each ends.
 
 #![tactic(auto)]
+
 mod cut;
 mod writing;
 
+use console::{ARGUMENT, TURN};
 use print::Answer;
+use std::io;
+use std::rt::{Env, Files};
 use tree::{Tree, Verdict};
 
 // What stands at a number that no class can have.
-fn print_beyond(tree: Tree) {
+fn print_beyond(rt: &(impl Print + Eprint), tree: Tree) -> io::Result<()> {
     let class = tree::class_at(tree, 64);
-    console::text(b"at 64: parent");
-    console::number(class.parent as u64);
-    console::text(b" share");
-    console::number(class.share as u64);
-    console::text(b"\n");
+    console::text(rt, b"at 64: parent")?;
+    console::number(rt, class.parent as u64)?;
+    console::text(rt, b" share")?;
+    console::number(rt, class.share as u64)?;
+    console::text(rt, b"\n")
 }
 
 // What a file reads as in bursts. Its tree is then seen by what is written of it.
-fn print_answer(answer: bursts::Answered) {
-    console::text(b"in bursts: ");
+fn print_answer(rt: &(impl Print + Eprint), answer: bursts::Answered) -> io::Result<()> {
+    console::text(rt, b"in bursts: ")?;
     let bursts::Answered::Reads { verdict } = answer else {
-        console::text(b"nothing yet\n");
-        return;
+        return console::text(rt, b"nothing yet\n");
     };
     match verdict {
-        Verdict::Right => console::text(b"right\n"),
-        Verdict::Refused { why, class } => console::say(Answer::TreeRefused { why, class }),
-    };
+        Verdict::Right => console::text(rt, b"right\n"),
+        Verdict::Refused { why, class } => console::say(rt, Answer::TreeRefused { why, class }),
+    }
 }
 
 // What the file of that name reads as.
-fn print_file(name: &[u8]) {
-    let fd = os::open_read(name);
-    if fd < 0 {
-        os::fail(name);
-        return;
-    }
-    let mut bytes = io::large_buffer();
-    let n = io::read_full(fd, &mut bytes);
-    libc::close(fd);
+fn print_file(rt: &(impl Files + Print + Eprint), name: &[u8]) -> io::Result<()> {
+    let mut file = match console::open(rt, name) {
+        Ok(file) => file,
+        Err(error) => {
+            console::fail(rt, name, error);
+            return Ok(());
+        }
+    };
+    let mut bytes = [0u8; TURN];
+    let n = console::read_full(&mut file, &mut bytes)?;
     let reading = file::reader::read(&bytes[..n]);
     let verdict = reading.verdict;
     match verdict {
         Verdict::Right => {
-            console::say_tree(reading.tree);
-            print_beyond(reading.tree);
+            console::say_tree(rt, reading.tree)?;
+            print_beyond(rt, reading.tree)?;
         }
         Verdict::Refused { why, class } => {
-            console::say(Answer::TreeRefused { why, class });
+            console::say(rt, Answer::TreeRefused { why, class })?;
         }
     }
     let told = cut::read(&bytes[..n]);
     let answer = told.answer;
-    print_answer(answer);
-    writing::print(told.tree, &bytes[..n]);
+    print_answer(rt, answer)?;
+    writing::print(rt, told.tree, &bytes[..n])
 }
 
-fn print_argument(i: usize) {
-    let mut name = io::buffer();
-    let n = os::arg(i, &mut name);
-    console::text(&name[..n]);
-    console::text(b"\n");
-    print_file(&name[..n]);
+fn print_argument(rt: &(impl Env + Files + Print + Eprint), i: usize) -> io::Result<()> {
+    let mut name = [0u8; ARGUMENT];
+    let n = console::word(rt, i, &mut name);
+    console::text(rt, &name[..n])?;
+    console::text(rt, b"\n")?;
+    print_file(rt, &name[..n])
 }
 
-fn main() {
-    let count = os::arg_count();
+fn main(rt: HostRuntime) -> io::Result<()> {
+    let count = console::arguments(&rt);
     for i in 1..count {
-        print_argument(i);
+        print_argument(&rt, i)?;
     }
+    Ok(())
 }

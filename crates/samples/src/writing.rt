@@ -4,15 +4,21 @@ ghost use Rattle.std.specs.Prelude.{◌≤◌, ◌<◌, length};
 
 use file::writer::Written;
 use print::Answer;
+use std::io;
 use tree::Tree;
 
 const FILL: u8 = 170;
 
-fn print_whether(right: bool, so: &[u8], otherwise: &[u8]) {
+fn print_whether(
+    rt: &(impl Print + Eprint),
+    right: bool,
+    so: &[u8],
+    otherwise: &[u8],
+) -> io::Result<()> {
     if right {
-        console::text(so);
+        console::text(rt, so)
     } else {
-        console::text(otherwise);
+        console::text(rt, otherwise)
     }
 }
 
@@ -48,16 +54,21 @@ fn is_file(out: &[u8; 4096], file: &[u8], total: usize, is_turned: bool) -> bool
 }
 
 // A file that was read in the other order is written in this one.
-fn print_copy(out: &[u8; 4096], file: &[u8], total: usize) {
+fn print_copy(
+    rt: &(impl Print + Eprint),
+    out: &[u8; 4096],
+    file: &[u8],
+    total: usize,
+) -> io::Result<()> {
     if is_file(out, file, total, false) {
-        console::text(b", as the file");
-        return;
+        return console::text(rt, b", as the file");
     }
     print_whether(
+        rt,
         is_file(out, file, total, true),
         b", as the file in the other order",
         b", not as the file",
-    );
+    )
 }
 
 // Whether the bytes from a place on are as they were.
@@ -78,28 +89,35 @@ fn written(tree: Tree, out: &mut [u8], room: usize) -> Written
 }
 
 // Writes the tree into the first bytes of a buffer.
-fn print_writing(tree: Tree, file: &[u8], room: usize) {
+fn print_writing(
+    rt: &(impl Print + Eprint),
+    tree: Tree,
+    file: &[u8],
+    room: usize,
+) -> io::Result<()> {
     if 4096 < room {
-        return;
+        return Ok(());
     }
     let mut out = filled();
     let answer = written(tree, &mut out, room);
     match answer {
         Written::Bytes(total) => {
-            console::text(b"written");
-            console::number(total as u64);
-            print_copy(&out, file, total as usize);
+            console::text(rt, b"written")?;
+            console::number(rt, total as u64)?;
+            print_copy(rt, &out, file, total as usize)?;
             print_whether(
+                rt,
                 is_filled(&out, total as usize),
                 b", none beyond\n",
                 b", some beyond\n",
-            );
+            )?;
         }
         Written::Refused { why, class } => {
-            console::say(Answer::TreeRefused { why, class });
-            print_whether(is_filled(&out, 0), b"none written\n", b"some written\n");
+            console::say(rt, Answer::TreeRefused { why, class })?;
+            print_whether(rt, is_filled(&out, 0), b"none written\n", b"some written\n")?;
         }
     }
+    Ok(())
 }
 
 // The tree with no share for its last class.
@@ -117,16 +135,16 @@ fn spoilt(tree: Tree) -> Tree {
 }
 
 // With more room than the file takes, with just so much, with a byte less; and spoilt.
-pub fn print(tree: Tree, file: &[u8]) {
+pub fn print(rt: &(impl Print + Eprint), tree: Tree, file: &[u8]) -> io::Result<()> {
     let n = file.len();
-    print_writing(tree, file, 4096);
+    print_writing(rt, tree, file, 4096)?;
     if tree.count < 2 {
-        return;
+        return Ok(());
     }
     if n < 1 {
-        return;
+        return Ok(());
     }
-    print_writing(tree, file, n);
-    print_writing(tree, file, n - 1);
-    print_writing(spoilt(tree), file, 4096);
+    print_writing(rt, tree, file, n)?;
+    print_writing(rt, tree, file, n - 1)?;
+    print_writing(rt, spoilt(tree), file, 4096)
 }

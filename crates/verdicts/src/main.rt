@@ -12,7 +12,7 @@ use std::io;
 
 fn main(rt: HostRuntime) -> io::Result<()> {
     let mut name = [0u8; ARGUMENT];
-    let n = console::argument(&rt, 1, &mut name)?;
+    let n = console::word(&rt, 1, &mut name);
     let mut bytes = [0u8; 4096];
     let got = console::read_file(&rt, &name[..n], &mut bytes, b"too long");
     if !got.is_read {

@@ -30,11 +30,10 @@ fn first_place(rt: &(impl Print + Eprint)) -> io::Result<()> {
     };
     curves[1] = Curve::Straight { rate: 1 };
     if curve::fit::fits(curves) {
-        text(rt, b"fit\n")?;
+        text(rt, b"fit\n")
     } else {
-        text(rt, b"do not fit\n")?;
+        text(rt, b"do not fit\n")
     }
-    Ok(())
 }
 
 // A piece, and both kept pieces where they are one.
