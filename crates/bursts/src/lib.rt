@@ -1,6 +1,7 @@
 // A reader that takes a class-tree file in bursts, as it comes, and is told when the file ends.
 
 #![tactic(auto)]
+
 ghost use Rattle.bursts.specs.Bursts.{Begun, Offered, Ended};
 
 use tree::{Tree, Verdict};

@@ -1,8 +1,12 @@
 // Reads class-tree files. A file of any length is read, in turns.
 ghost use Rattle.console.specs.Trees.{ToldOfSome};
 
+use crate::{ARGUMENT, TURN};
 use bursts::{Answered, KEPT, MOST_SEEN, Seen, Taken};
 use print::Answer;
+use std::io;
+use std::io::Read;
+use std::rt::{Env, Files};
 use tree::{Tree, Verdict};
 
 // A tree, where there is one.
@@ -14,20 +18,18 @@ pub struct Told {
 
 // The tree of the class-tree file that the argument at that place names. Where there is none, since the file can't be read or is
 // refused, that is said.
-pub fn tree_argument(at: usize) -> Told {
-    let mut name = io::buffer();
-    let n = os::arg(at, &mut name);
-    if os::errno() != 0 {
-        os::fail(b"TREE");
+pub fn tree_argument(rt: &(impl Env + Files + Print + Eprint), at: usize) -> Told {
+    let mut name = [0u8; ARGUMENT];
+    let Some(n) = crate::name(rt, at, b"TREE", &mut name) else {
         return untold();
-    }
-    let taken = read_tree(&name[..n]);
+    };
+    let taken = read_tree(rt, &name[..n]);
     let reads = taken.answer;
     let Answered::Reads { verdict } = reads else {
         return untold();
     };
     if let Verdict::Refused { why, class } = verdict {
-        crate::say(Answer::TreeRefused { why, class });
+        let _ = crate::say(rt, Answer::TreeRefused { why, class });
         return untold();
     }
     let tree = taken.tree;
@@ -47,32 +49,28 @@ fn untold() -> Told {
 
 // What the class-tree file of that name reads as. Where it can't be read, that is said, and the answer is nothing yet, with no
 // tree.
-pub fn read_tree(name: &[u8]) -> Taken
+pub fn read_tree(rt: &(impl Files + Eprint), name: &[u8]) -> Taken
     ensures { ToldOfSome result }
 {
-    let fd = os::open_read(name);
-    if fd < 0 {
-        return unread(name);
+    match crate::open(rt, name) {
+        Ok(mut file) => turns(rt, &mut file, name),
+        Err(error) => unread(rt, name, error),
     }
-    let told = turns(fd, name);
-    libc::close(fd);
-    told
 }
 
 // Offers what each read gives, until one gives nothing. From 2^32 bytes on, nothing that follows can change the answer: so
 // the reading stops there too, and a file without an end gets its refusal.
-fn turns(fd: i32, name: &[u8]) -> Taken
+fn turns(rt: &impl Eprint, file: &mut impl Read, name: &[u8]) -> Taken
     ensures { ToldOfSome result }
 {
     let mut kept = [0u8; KEPT];
-    let mut bytes = io::large_buffer();
+    let mut bytes = [0u8; TURN];
     let mut seen = bursts::begin(&mut kept);
     while seen.count < MOST_SEEN {
-        let got = libc::read(fd, &mut bytes);
-        if got < 0 {
-            return unread(name);
-        }
-        let n = io::count(got, &bytes);
+        let n = match file.read(&mut bytes) {
+            Ok(n) => n,
+            Err(error) => return unread(rt, name, error),
+        };
         if n == 0 {
             break;
         }
@@ -83,10 +81,10 @@ fn turns(fd: i32, name: &[u8]) -> Taken
 }
 
 // A file that can't be read: its end was not told.
-fn unread(name: &[u8]) -> Taken
+fn unread(rt: &impl Eprint, name: &[u8], error: io::Error) -> Taken
     ensures { ToldOfSome result }
 {
-    os::fail(name);
+    crate::fail(rt, name, error);
     Taken {
         seen: Seen {
             count: 0,

@@ -1,6 +1,7 @@
 // The class-tree file: reading it into a tree, and writing a tree into it.
 
 #![tactic(auto)]
+
 use tree::{Tree, Verdict};
 
 mod format;

@@ -2,23 +2,24 @@
 use crate::asking::{begin, end, offer};
 use crate::smallest::FILE;
 use bursts::Kept;
+use std::io;
 
-pub fn run(kept: &mut Kept, seen: &mut [u64; 2]) {
-    crossing(kept, seen);
-    long_root(kept, seen);
-    counting(kept, seen);
+pub fn run(rt: &(impl Print + Eprint), kept: &mut Kept, seen: &mut [u64; 2]) -> io::Result<()> {
+    crossing(rt, kept, seen)?;
+    long_root(rt, kept, seen)?;
+    counting(rt, kept, seen)
 }
 
 // A burst that crosses the last place: its first bytes are kept.
-fn crossing(kept: &mut Kept, seen: &mut [u64; 2]) {
+fn crossing(rt: &(impl Print + Eprint), kept: &mut Kept, seen: &mut [u64; 2]) -> io::Result<()> {
     let first = [1u8; 2040];
     let mut second = [2u8; 60];
     second[11] = 3;
-    begin(kept, seen);
-    offer(kept, seen, &first, 2039);
-    offer(kept, seen, &second, 2051);
-    offer(kept, seen, &first, 2051);
-    end(kept, seen);
+    begin(rt, kept, seen)?;
+    offer(rt, kept, seen, &first, 2039)?;
+    offer(rt, kept, seen, &second, 2051)?;
+    offer(rt, kept, seen, &first, 2051)?;
+    end(rt, kept, seen)
 }
 
 // A word of 16 bits, as one of 32, big-endian.
@@ -39,7 +40,7 @@ fn put_contents(bytes: &mut [u8; 2064]) {
 }
 
 // 64 classes with bodies of 24 bytes each, all in their places: 2,064 bytes. The root's body is too long.
-fn long_root(kept: &mut Kept, seen: &mut [u64; 2]) {
+fn long_root(rt: &(impl Print + Eprint), kept: &mut Kept, seen: &mut [u64; 2]) -> io::Result<()> {
     let mut bytes = [0u8; 2064];
     bytes[0] = 1;
     bytes[1] = 2;
@@ -49,14 +50,19 @@ fn long_root(kept: &mut Kept, seen: &mut [u64; 2]) {
     put(&mut bytes, 8, 64);
     put(&mut bytes, 12, 2064);
     put_contents(&mut bytes);
-    send(kept, seen, &bytes);
+    send(rt, kept, seen, &bytes)
 }
 
 // The whole of it in one burst.
-fn send(kept: &mut Kept, seen: &mut [u64; 2], file: &[u8; 2064]) {
-    begin(kept, seen);
-    offer(kept, seen, file, 527);
-    end(kept, seen);
+fn send(
+    rt: &(impl Print + Eprint),
+    kept: &mut Kept,
+    seen: &mut [u64; 2],
+    file: &[u8; 2064],
+) -> io::Result<()> {
+    begin(rt, kept, seen)?;
+    offer(rt, kept, seen, file, 527)?;
+    end(rt, kept, seen)
 }
 
 // The same burst, 65,536 times.
@@ -67,12 +73,12 @@ fn many_times(kept: &mut Kept, seen: &mut [u64; 2], burst: &[u8]) {
 }
 
 // 2^32 bytes after the smallest file: the count stops, and its total is no longer what was given.
-fn counting(kept: &mut Kept, seen: &mut [u64; 2]) {
+fn counting(rt: &(impl Print + Eprint), kept: &mut Kept, seen: &mut [u64; 2]) -> io::Result<()> {
     let file = FILE;
-    let zeros = io::large_buffer();
-    begin(kept, seen);
-    offer(kept, seen, &file, 57);
+    let zeros = [0u8; 65536];
+    begin(rt, kept, seen)?;
+    offer(rt, kept, seen, &file, 57)?;
     many_times(kept, seen, &zeros);
-    offer(kept, seen, &zeros, 57);
-    end(kept, seen);
+    offer(rt, kept, seen, &zeros, 57)?;
+    end(rt, kept, seen)
 }

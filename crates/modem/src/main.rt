@@ -2,15 +2,17 @@
 // seen then.
 
 #![tactic(auto)]
+
 use bursts::KEPT;
+use std::io;
 
 mod asking;
 mod lengthy;
 mod smallest;
 
-fn main() {
+fn main(rt: HostRuntime) -> io::Result<()> {
     let mut kept = [7u8; KEPT];
     let mut seen = [7u64; 2];
-    smallest::run(&mut kept, &mut seen);
-    lengthy::run(&mut kept, &mut seen);
+    smallest::run(&rt, &mut kept, &mut seen)?;
+    lengthy::run(&rt, &mut kept, &mut seen)
 }

@@ -1,19 +1,20 @@
 // Logs that are accepted, and logs over a refused file.
 use crate::tell;
+use std::io;
 
-pub fn run(file: &[u8]) {
-    tell(b"empty:", file, &[]);
-    tell(b"sent:", file, &[1, 0, 3, 200, 2, 0, 3, 200]);
-    tell(b"found empty:", file, &[3, 5, 0, 0, 3, 5, 0, 0]);
-    refused(file);
+pub fn run(rt: &(impl Print + Eprint), file: &[u8]) -> io::Result<()> {
+    tell(rt, b"empty:", file, &[])?;
+    tell(rt, b"sent:", file, &[1, 0, 3, 200, 2, 0, 3, 200])?;
+    tell(rt, b"found empty:", file, &[3, 5, 0, 0, 3, 5, 0, 0])?;
+    refused(rt, file)
 }
 
 // The first 20 bytes of the file: it ends within its contents.
-fn refused(file: &[u8]) {
+fn refused(rt: &(impl Print + Eprint), file: &[u8]) -> io::Result<()> {
     if file.len() < 20 {
-        return;
+        return Ok(());
     }
     let front = &file[..20];
-    tell(b"refused file:", front, &[]);
-    tell(b"refused file, short log:", front, &[9]);
+    tell(rt, b"refused file:", front, &[])?;
+    tell(rt, b"refused file, short log:", front, &[9])
 }

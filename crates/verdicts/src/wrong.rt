@@ -1,35 +1,42 @@
 // Logs with a wrong record.
 use crate::tell;
+use std::io;
 
-pub fn run(file: &[u8]) {
-    malformed(file);
-    refused(file);
-    another(file);
+pub fn run(rt: &(impl Print + Eprint), file: &[u8]) -> io::Result<()> {
+    malformed(rt, file)?;
+    refused(rt, file)?;
+    another(rt, file)
 }
 
-fn malformed(file: &[u8]) {
-    tell(b"kind 4:", file, &[1, 0, 3, 200, 4, 0, 0, 0]);
-    tell(b"kind 3 with a class:", file, &[3, 0, 3, 0]);
-    tell(b"kind 3 with a length:", file, &[3, 0, 0, 1]);
-    tell(b"short:", file, &[1, 0, 3, 200, 2, 0, 3]);
-    tell(b"short after a wrong one:", file, &[0, 0, 0, 0, 1]);
+fn malformed(rt: &(impl Print + Eprint), file: &[u8]) -> io::Result<()> {
+    tell(rt, b"kind 4:", file, &[1, 0, 3, 200, 4, 0, 0, 0])?;
+    tell(rt, b"kind 3 with a class:", file, &[3, 0, 3, 0])?;
+    tell(rt, b"kind 3 with a length:", file, &[3, 0, 0, 1])?;
+    tell(rt, b"short:", file, &[1, 0, 3, 200, 2, 0, 3])?;
+    tell(rt, b"short after a wrong one:", file, &[0, 0, 0, 0, 1])
 }
 
-fn refused(file: &[u8]) {
-    tell(b"not a leaf:", file, &[1, 0, 2, 200, 4, 0, 0, 0]);
-    tell(b"no length:", file, &[1, 0, 3, 200, 1, 0, 3, 0]);
-    tell(b"stamp goes back:", file, &[1, 9, 3, 200, 2, 8, 3, 200]);
-    tell(b"empty, stamp goes back:", file, &[3, 9, 0, 0, 3, 8, 0, 0]);
-}
-
-fn another(file: &[u8]) {
-    tell(b"another class:", file, &[1, 0, 3, 200, 2, 0, 4, 200]);
-    tell(b"another length:", file, &[1, 0, 3, 200, 2, 0, 3, 201]);
-    tell(b"none waits:", file, &[2, 0, 3, 200]);
-    tell(b"one waits:", file, &[1, 0, 3, 200, 3, 0, 0, 0]);
+fn refused(rt: &(impl Print + Eprint), file: &[u8]) -> io::Result<()> {
+    tell(rt, b"not a leaf:", file, &[1, 0, 2, 200, 4, 0, 0, 0])?;
+    tell(rt, b"no length:", file, &[1, 0, 3, 200, 1, 0, 3, 0])?;
+    tell(rt, b"stamp goes back:", file, &[1, 9, 3, 200, 2, 8, 3, 200])?;
     tell(
+        rt,
+        b"empty, stamp goes back:",
+        file,
+        &[3, 9, 0, 0, 3, 8, 0, 0],
+    )
+}
+
+fn another(rt: &(impl Print + Eprint), file: &[u8]) -> io::Result<()> {
+    tell(rt, b"another class:", file, &[1, 0, 3, 200, 2, 0, 4, 200])?;
+    tell(rt, b"another length:", file, &[1, 0, 3, 200, 2, 0, 3, 201])?;
+    tell(rt, b"none waits:", file, &[2, 0, 3, 200])?;
+    tell(rt, b"one waits:", file, &[1, 0, 3, 200, 3, 0, 0, 0])?;
+    tell(
+        rt,
         b"first of two:",
         file,
         &[1, 0, 3, 200, 3, 0, 0, 0, 4, 0, 0, 0],
-    );
+    )
 }

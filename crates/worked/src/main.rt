@@ -2,7 +2,9 @@
 // and prints a line a fact.
 
 #![tactic(auto)]
+
 use state::table::{CELLS, PLACES};
+use std::io;
 
 mod asked;
 mod calls;
@@ -14,14 +16,14 @@ mod rows;
 mod stamps;
 mod trees;
 
-fn main() {
+fn main(rt: HostRuntime) -> io::Result<()> {
     let mut words = [0u64; CELLS];
     let mut lengths = [0u16; PLACES];
-    rows::run(&mut words, &mut lengths);
-    stamps::run(&mut words, &mut lengths);
-    refusals::run(&mut words, &mut lengths);
-    choices::run(&mut words, &mut lengths);
-    asked::run(&mut words, &mut lengths);
-    curves::run();
-    hosts::run(&mut words, &mut lengths);
+    rows::run(&rt, &mut words, &mut lengths)?;
+    stamps::run(&rt, &mut words, &mut lengths)?;
+    refusals::run(&rt, &mut words, &mut lengths)?;
+    choices::run(&rt, &mut words, &mut lengths)?;
+    asked::run(&rt, &mut words, &mut lengths)?;
+    curves::run(&rt)?;
+    hosts::run(&rt, &mut words, &mut lengths)
 }

@@ -6,46 +6,47 @@ use crate::trees;
 use console::{line, text};
 use rules::Departure;
 use state::table::{Lengths, Words};
+use std::io;
 
-pub fn run(words: &mut Words, lengths: &mut Lengths) {
-    round(words, lengths);
-    kept(words, lengths);
-    too_far(words, lengths);
-    idle(words, lengths);
-    last_tick(words, lengths);
+pub fn run(rt: &(impl Print + Eprint), words: &mut Words, lengths: &mut Lengths) -> io::Result<()> {
+    round(rt, words, lengths)?;
+    kept(rt, words, lengths)?;
+    too_far(rt, words, lengths)?;
+    idle(rt, words, lengths)?;
+    last_tick(rt, words, lengths)
 }
 
-fn round(words: &mut Words, lengths: &mut Lengths) {
-    text(b"# stamp 4,294,967,290, then 10: 16 elapsed\n");
-    starts(trees::tree_a(), 4294967290, words, lengths);
-    arrives(words, lengths, 10, 1, 500);
-    departs(words, lengths, 10);
+fn round(rt: &(impl Print + Eprint), words: &mut Words, lengths: &mut Lengths) -> io::Result<()> {
+    text(rt, b"# stamp 4,294,967,290, then 10: 16 elapsed\n")?;
+    starts(rt, trees::tree_a(), 4294967290, words, lengths)?;
+    arrives(rt, words, lengths, 10, 1, 500)?;
+    departs(rt, words, lengths, 10)
 }
 
-fn kept(words: &mut Words, lengths: &mut Lengths) {
-    text(b"# elapsed 2,147,483,647: kept\n");
-    starts(trees::tree_a(), 7, words, lengths);
-    arrives(words, lengths, 2147483654, 1, 500);
-    departs(words, lengths, 2147483654);
+fn kept(rt: &(impl Print + Eprint), words: &mut Words, lengths: &mut Lengths) -> io::Result<()> {
+    text(rt, b"# elapsed 2,147,483,647: kept\n")?;
+    starts(rt, trees::tree_a(), 7, words, lengths)?;
+    arrives(rt, words, lengths, 2147483654, 1, 500)?;
+    departs(rt, words, lengths, 2147483654)
 }
 
 // The call that is refused moves neither the clock nor the kept stamp.
-fn too_far(words: &mut Words, lengths: &mut Lengths) {
-    text(b"# elapsed 2,147,483,648: 14\n");
-    starts(trees::tree_a(), 7, words, lengths);
-    arrives(words, lengths, 2147483655, 1, 500);
-    departs(words, lengths, 2147483655);
-    arrives(words, lengths, 8, 1, 500);
-    departs(words, lengths, 6);
-    departs(words, lengths, 8);
+fn too_far(rt: &(impl Print + Eprint), words: &mut Words, lengths: &mut Lengths) -> io::Result<()> {
+    text(rt, b"# elapsed 2,147,483,648: 14\n")?;
+    starts(rt, trees::tree_a(), 7, words, lengths)?;
+    arrives(rt, words, lengths, 2147483655, 1, 500)?;
+    departs(rt, words, lengths, 2147483655)?;
+    arrives(rt, words, lengths, 8, 1, 500)?;
+    departs(rt, words, lengths, 6)?;
+    departs(rt, words, lengths, 8)
 }
 
-fn idle(words: &mut Words, lengths: &mut Lengths) {
-    text(b"# none waits moves the clock\n");
-    starts(trees::tree_a(), 0, words, lengths);
-    departs(words, lengths, 2147483647);
-    arrives(words, lengths, 2147483648, 1, 500);
-    departs(words, lengths, 2147483648);
+fn idle(rt: &(impl Print + Eprint), words: &mut Words, lengths: &mut Lengths) -> io::Result<()> {
+    text(rt, b"# none waits moves the clock\n")?;
+    starts(rt, trees::tree_a(), 0, words, lengths)?;
+    departs(rt, words, lengths, 2147483647)?;
+    arrives(rt, words, lengths, 2147483648, 1, 500)?;
+    departs(rt, words, lengths, 2147483648)
 }
 
 // A departure at that stamp: whether none waited.
@@ -61,7 +62,12 @@ fn is_idle(words: &mut Words, lengths: &mut Lengths, stamp: u32) -> bool
 }
 
 // So many departures, each 2,147,483,647 ticks after the one before, from stamp 0 on.
-fn wait(words: &mut Words, lengths: &mut Lengths, times: u32)
+fn wait(
+    rt: &(impl Print + Eprint),
+    words: &mut Words,
+    lengths: &mut Lengths,
+    times: u32,
+) -> io::Result<()>
     requires { Reached words.old lengths.old }
     ensures { Reached words.new lengths.new }
 {
@@ -73,19 +79,23 @@ fn wait(words: &mut Words, lengths: &mut Lengths, times: u32)
             idle = idle + 1;
         }
     }
-    line(b"none waits, times", idle as u64);
+    line(rt, b"none waits, times", idle as u64)
 }
 
 // 512 times 2,147,483,647 is 2^40 less 512; the stamp is then 2^32 less 512.
-fn last_tick(words: &mut Words, lengths: &mut Lengths) {
-    text(b"# the clock at 2^40, and one tick more: 15\n");
-    starts(trees::tree_a(), 0, words, lengths);
-    wait(words, lengths, 512);
-    arrives(words, lengths, 1, 1, 500);
-    departs(words, lengths, 1);
-    arrives(words, lengths, 0, 1, 500);
-    arrives(words, lengths, 1, 3, 0);
-    departs(words, lengths, 2147483648);
-    departs(words, lengths, 1);
-    departs(words, lengths, 0);
+fn last_tick(
+    rt: &(impl Print + Eprint),
+    words: &mut Words,
+    lengths: &mut Lengths,
+) -> io::Result<()> {
+    text(rt, b"# the clock at 2^40, and one tick more: 15\n")?;
+    starts(rt, trees::tree_a(), 0, words, lengths)?;
+    wait(rt, words, lengths, 512)?;
+    arrives(rt, words, lengths, 1, 1, 500)?;
+    departs(rt, words, lengths, 1)?;
+    arrives(rt, words, lengths, 0, 1, 500)?;
+    arrives(rt, words, lengths, 1, 3, 0)?;
+    departs(rt, words, lengths, 2147483648)?;
+    departs(rt, words, lengths, 1)?;
+    departs(rt, words, lengths, 0)
 }

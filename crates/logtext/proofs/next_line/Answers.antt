@@ -6,4 +6,4 @@ use Rattle.logtext.proofs.next_line.Goals as goal
 
 pub returns : goal.returns
 unfolding next_line
-returns c = ap between c.wrapping_add_u64.ensures
+returns c = ap between c.wrapping_add_u64.ensures.value

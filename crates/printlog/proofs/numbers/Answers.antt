@@ -1,0 +1,11 @@
+-- `printlog::numbers` meets its contract: the numbers one by one, the last as the last of the line.
+-- Assumes nothing.
+use Rattle.print.specs.Lines.{further}
+use Rattle.printlog.specs.Lines.{log_line_of}
+use Rattle.print.proofs.Stores.{then}
+use borrow.Author.Rules.{rules}
+use Rattle.printlog.proofs.numbers.Goals as goal
+
+pub returns : goal.returns
+unfolding further log_line_of
+returns c = then c.spelled-first.ensures.0 (then c.number-second.ensures.0 (then c.number-third.ensures.0 c.last.ensures.0))
