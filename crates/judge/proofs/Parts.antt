@@ -70,8 +70,8 @@ module _ {next : History} {rest : List ℕ} where
   in_parts r (a ∷ []) size e judges = absurd (omega arith)
   in_parts r (a ∷ b ∷ []) size e judges = absurd (omega arith)
   in_parts r (a ∷ b ∷ c ∷ []) size e judges = absurd (omega arith)
-  in_parts {k = k} {v = v} r (a ∷ b ∷ c ∷ d ∷ front) size e (right p judges) =
-      let parts = in_parts (r - 1) front (omega arith) e judges in
+  in_parts {h = h} {k = k} {v = v} r (a ∷ b ∷ c ∷ d ∷ front) size e (right {after = after} p judges) =
+      let parts = in_parts {h = after} (r - 1) front (omega arith) e judges in
       let same : k + 1 + (r - 1) ≡ k + r = omega arith in
       record {
         between = parts.between;

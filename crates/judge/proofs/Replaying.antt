@@ -62,10 +62,8 @@ module _ (h : History) (law : Lawful h) (f g : Finding) (x y : History) where
   replayed_one Malformed p q = (p.0 ∙ sym q.0, p.1 ∙ sym q.1)
 
 -- a finding that is another than the right one
-pub not_holds : (f : Finding) → OneOf (1 ∷ 2 ∷ 3 ∷ []) (tag_of the_type f) → holds f ≡ false
-not_holds finding.Holds (inl k) = absurd (omega arith)
-not_holds finding.Holds (inr (inl k)) = absurd (omega arith)
-not_holds finding.Holds (inr (inr k)) = absurd (omega arith)
-not_holds finding.Malformed k = refl
-not_holds (finding.Refused why) k = refl
-not_holds (finding.Another ours) k = refl
+pub not_holds : (f : Finding) → (f ≡ finding.Holds → ⊥) → holds f ≡ false
+not_holds finding.Holds n = absurd (n refl)
+not_holds finding.Malformed n = refl
+not_holds (finding.Refused why) n = refl
+not_holds (finding.Another ours) n = refl
