@@ -10,14 +10,14 @@ use Rattle.judgetext.proofs.judge_text.Goals as goal
 pub returns-then-not-is_right : goal.returns-then-not-is_right
 returns-then-not-is_right c =
     let loop = c.loop-i in
-    record { right = λ h law shows. onward_stopped (loop.invariant.2 h law shows) (omega arith) (sym c.is_right.ensures ∙ not-true _ c.if-not-is_right.true-raw); reached = loop.invariant.0 }
+    record { right = λ h law shows. onward_stopped (loop.invariant.2 h law shows) (omega arith) (sym c.is_right.ensures ∙ c.if-not-is_right.true); reached = loop.invariant.0 }
 
 pub loop-i-preserved : goal.loop-i-preserved
 loop-i-preserved c =
     let loop = c.loop-i in (
       c.read-here.ensures.reached,
       omega arith,
-      λ h law shows. onward_next (loop.invariant.2 h law shows) (omega arith) (sym c.is_right.ensures ∙ not-false _ c.if-not-is_right.false-raw) c.read-here.ensures.right,
+      λ h law shows. onward_next (loop.invariant.2 h law shows) (omega arith) (sym c.is_right.ensures ∙ c.if-not-is_right.false) c.read-here.ensures.right,
     )
 
 pub returns : goal.returns
