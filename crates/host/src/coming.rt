@@ -51,16 +51,14 @@ fn end(kept: &Kept, numbers: &mut [u64; 2]) -> Taken
 }
 
 // Before the first byte of a file.
-#[unsafe(no_mangle)]
-pub extern "C" fn hfsc_bursts_begin(kept: &mut Kept, seen: &mut [u64; 2])
+pub fn hfsc_bursts_begin(kept: &mut Kept, seen: &mut [u64; 2])
     ensures { BeginTold kept.new seen.new }
 {
     note(seen, bursts::begin(kept));
 }
 
 // The next burst of the file. Before the end was told the answer is 0; after it the burst changes nothing, and the answer is the number of the file's refusal.
-#[unsafe(no_mangle)]
-pub extern "C" fn hfsc_bursts_offer(kept: &mut Kept, seen: &mut [u64; 2], burst: &[u8]) -> u32
+pub fn hfsc_bursts_offer(kept: &mut Kept, seen: &mut [u64; 2], burst: &[u8]) -> u32
     ensures { OfferTold kept.old seen.old burst.now result kept.new seen.new }
 {
     let told = bursts::offer(kept, seen_said(seen), burst);
@@ -71,8 +69,7 @@ pub extern "C" fn hfsc_bursts_offer(kept: &mut Kept, seen: &mut [u64; 2], burst:
 }
 
 // The file has ended. The answer is 0, or the number of its refusal, with the class at fault in `fault`.
-#[unsafe(no_mangle)]
-pub extern "C" fn hfsc_bursts_end(kept: &Kept, seen: &mut [u64; 2], fault: &mut u32) -> u32
+pub fn hfsc_bursts_end(kept: &Kept, seen: &mut [u64; 2], fault: &mut u32) -> u32
     ensures { EndTold kept.now seen.old result fault.new seen.new }
 {
     let told = end(kept, seen);
@@ -83,8 +80,7 @@ pub extern "C" fn hfsc_bursts_end(kept: &Kept, seen: &mut [u64; 2], fault: &mut 
 }
 
 // The file has ended, and a state is started from it. A refused file gives the state of no classes, as a refused tree does.
-#[unsafe(no_mangle)]
-pub extern "C" fn hfsc_start_bursts(
+pub fn hfsc_start_bursts(
     words: &mut Words,
     lengths: &mut Lengths,
     kept: &Kept,

@@ -25,8 +25,7 @@ mod words;
 
 // A state started from a tree of words, at time 0 with this stamp. The answer is 0, or the number of
 // the refusal, with the class at fault in `fault`.
-#[unsafe(no_mangle)]
-pub extern "C" fn hfsc_start_words(
+pub fn hfsc_start_words(
     words: &mut Words,
     lengths: &mut Lengths,
     tree: &[u32],
@@ -42,8 +41,7 @@ pub extern "C" fn hfsc_start_words(
 }
 
 // A state started from a tree file. A refused file gives the state of no classes, as a refused tree does.
-#[unsafe(no_mangle)]
-pub extern "C" fn hfsc_start_file(
+pub fn hfsc_start_file(
     words: &mut Words,
     lengths: &mut Lengths,
     file: &[u8],
@@ -63,8 +61,7 @@ pub extern "C" fn hfsc_start_file(
 
 // The file of a tree of words, written to the start of `out`: 0, with its bytes counted in `total`; or the number of the refusal, with
 // the class at fault in `fault`.
-#[unsafe(no_mangle)]
-pub extern "C" fn hfsc_write(tree: &[u32], out: &mut [u8], total: &mut u32, fault: &mut u32) -> u32
+pub fn hfsc_write(tree: &[u32], out: &mut [u8], total: &mut u32, fault: &mut u32) -> u32
     ensures { WriteTold (tree_said tree.now) out.old result total.new fault.new out.new }
 {
     let answer = file::writer::write(tree_of(tree), out);
@@ -75,8 +72,7 @@ pub extern "C" fn hfsc_write(tree: &[u32], out: &mut [u8], total: &mut u32, faul
 }
 
 // Judges the log of a box over a tree file, from a first stamp. The answer is the number of the judgement, and `out` says more of it.
-#[unsafe(no_mangle)]
-pub extern "C" fn hfsc_judge(file: &[u8], first: u32, log: &[u32], out: &mut [u64; 4]) -> u32
+pub fn hfsc_judge(file: &[u8], first: u32, log: &[u32], out: &mut [u64; 4]) -> u32
     ensures { JudgeTold file.now first log.now result out.new }
 {
     judgefile::judge_file(file, first, log, out)
@@ -84,8 +80,7 @@ pub extern "C" fn hfsc_judge(file: &[u8], first: u32, log: &[u32], out: &mut [u6
 
 // A packet of this length arrives for this class. The answer is 0, with the packet's number in `number`,
 // or the number of the refusal.
-#[unsafe(no_mangle)]
-pub extern "C" fn hfsc_arrive(
+pub fn hfsc_arrive(
     words: &mut Words,
     lengths: &mut Lengths,
     stamp: u32,
@@ -103,8 +98,7 @@ pub extern "C" fn hfsc_arrive(
 }
 
 // The link asks for a packet. The answer is 0, with what leaves in `out`, or the number of the refusal.
-#[unsafe(no_mangle)]
-pub extern "C" fn hfsc_depart(
+pub fn hfsc_depart(
     words: &mut Words,
     lengths: &mut Lengths,
     stamp: u32,
@@ -120,8 +114,7 @@ pub extern "C" fn hfsc_depart(
 }
 
 // The clock.
-#[unsafe(no_mangle)]
-pub extern "C" fn hfsc_clock(words: &Words, lengths: &Lengths) -> u64
+pub fn hfsc_clock(words: &Words, lengths: &Lengths) -> u64
     requires { Reached words.now lengths.now }
     ensures { EveryHistory words.now lengths.now (λ h. result ≡ clock h.calls) }
 {
@@ -129,8 +122,7 @@ pub extern "C" fn hfsc_clock(words: &Words, lengths: &Lengths) -> u64
 }
 
 // How many packets wait in a class.
-#[unsafe(no_mangle)]
-pub extern "C" fn hfsc_waiting(words: &Words, lengths: &Lengths, class: u32) -> u64
+pub fn hfsc_waiting(words: &Words, lengths: &Lengths, class: u32) -> u64
     requires { Reached words.now lengths.now }
     ensures { EveryHistory words.now lengths.now (λ h. result ≡ length (queue h.calls class)) }
 {
@@ -138,8 +130,7 @@ pub extern "C" fn hfsc_waiting(words: &Words, lengths: &Lengths, class: u32) -> 
 }
 
 // The virtual time of a class.
-#[unsafe(no_mangle)]
-pub extern "C" fn hfsc_virtual_time(words: &Words, lengths: &Lengths, class: u32) -> u64
+pub fn hfsc_virtual_time(words: &Words, lengths: &Lengths, class: u32) -> u64
     requires { Reached words.now lengths.now }
     ensures { EveryHistory words.now lengths.now (λ h. result ≡ virtual_time_of h.tree h.calls class) }
 {
@@ -147,8 +138,7 @@ pub extern "C" fn hfsc_virtual_time(words: &Words, lengths: &Lengths, class: u32
 }
 
 // Whether a leaf's head has an eligible time and a deadline, and both, in `out`.
-#[unsafe(no_mangle)]
-pub extern "C" fn hfsc_head_times(words: &Words, lengths: &Lengths, class: u32, out: &mut [u64; 3])
+pub fn hfsc_head_times(words: &Words, lengths: &Lengths, class: u32, out: &mut [u64; 3])
     requires { Reached words.now lengths.now }
     ensures { HeadTold words.now lengths.now class out.new }
 {

@@ -1,16 +1,16 @@
 -- The words of a line that is made of plain words: what is first, and what comes after.
 -- Assumes nothing.
-use Prim.Native.Nat.{ℕ, suc, ◌+◌, ◌/◌, ◌%◌, ◌<◌}
+use Prim.Native.Nat.{ℕ, ◌+◌, ◌/◌, ◌%◌, ◌<◌}
 use native.Mathlib.Nat.{mod-lt}
 use native.Mathlib.Omega.{arith}
-use mathlib.Core.Path.{◌≡◌, refl, sym, ap, ◌∙◌}
+use mathlib.Core.Path.{◌≡◌, refl, ◌∙◌}
 use mathlib.Core.Bool.{Bool, true, false, not, ◌&&◌}
 use mathlib.Core.List.{List, [], ◌∷◌, ◌++◌, append-nil}
 use lib.Dec.{eqb}
-use lib.ListN.{length, take, drop}
+use lib.ListN.{length}
 use lib.Seq.{take-length, take-append_seam, drop-append_seam}
 use borrow.Author.Tests.{ne_eqb, not-true}
-use Rattle.wording.specs.declared.Kind.TheVariants.{Blank, Dark, Text}
+use Rattle.wording.specs.declared.Kind.TheVariants.{Dark, Text}
 use Rattle.wording.specs.Letters.{space, line_feed}
 use Rattle.wording.specs.Words.{is_blank, is_of, span, uncommented, begun, first, after}
 pub use Rattle.wording.specs.Words.{every, is_plain, Plain}

@@ -1,12 +1,12 @@
 -- The decimal digits of a number read back as that number, and are those of no other.
 -- Assumes nothing.
-use Prim.Native.Nat.{ℕ, ◌+◌, ◌-◌, ◌*◌, ◌/◌, ◌%◌, ◌≤◌, ◌<◌}
+use Prim.Native.Nat.{ℕ, ◌+◌, ◌-◌, ◌*◌, ◌/◌, ◌%◌, ◌<◌}
 use native.Mathlib.Nat.{div-add-mod, mod-lt}
 use native.Mathlib.Omega.{arith}
-use mathlib.Core.Path.{◌≡◌, refl, sym, ap, ◌∙◌}
+use mathlib.Core.Path.{◌≡◌, sym, ap, ◌∙◌}
 use mathlib.Core.List.{List, [], ◌∷◌, ◌++◌, append-nil, append_assoc}
 use borrow.Author.Tests.{le-leb}
-use Rattle.wording.specs.Numbers.{number_from, number_of}
+use Rattle.wording.specs.Numbers.{number_from}
 use Rattle.wording.specs.Decimal.{digit, decimal}
 use Rattle.wording.specs.Theorems.{DecimalReads, DecimalOne}
 use Rattle.wording.proofs.Digits.{number_some}

@@ -15,7 +15,6 @@ use Rattle.curve.specs.Keeping.{Follows, Orderly, choose, lower_of, lowest, kept
 use Rattle.curve.specs.declared.Curve.{Curve}
 use Rattle.curve.specs.declared.Curve.TheVariants.{None, Straight, FrontLoaded, Delayed}
 use Rattle.curve.specs.declared.Piece.{Piece}
-use Rattle.curve.specs.declared.Kept.{Kept}
 use Rattle.curve.proofs.Laws.Order.{le_or_lt}
 use Rattle.curve.proofs.Laws.Answers.{least_iff}
 use Rattle.curve.proofs.Laws.Amount.{front_before, front_past}

@@ -13,12 +13,12 @@ pub returns-then-not-is : goal.returns-then-not-is
 unfolding labelled
 returns-then-not-is c =
     let a = c.args in
-    let other : same (first a.text.now) a.name.now ≡ false = sym (c.is.ensures ∙ ap (λ w. same w a.name.now) c.word.ensures) ∙ not-true _ c.if-not-is.true-raw in
+    let other : same (first a.text.now) a.name.now ≡ false = sym (c.is.ensures ∙ ap (λ w. same w a.name.now) c.word.ensures) ∙ c.if-not-is.true in
     rw other
 
 pub returns : goal.returns
 unfolding labelled
 returns c =
     let a = c.args in
-    let it : same (first a.text.now) a.name.now ≡ true = sym (c.is.ensures ∙ ap (λ w. same w a.name.now) c.word.ensures) ∙ not-false _ c.if-not-is.false-raw in
+    let it : same (first a.text.now) a.name.now ≡ true = sym (c.is.ensures ∙ ap (λ w. same w a.name.now) c.word.ensures) ∙ c.if-not-is.false in
     rw it (c.number.ensures ∙ ap number_of (c.word-2.ensures ∙ ap first c.behind.ensures))

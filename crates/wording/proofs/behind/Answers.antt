@@ -3,7 +3,6 @@
 use Prim.Native.Nat.{◌-◌}
 use mathlib.Core.Path.{◌≡◌, ap, ◌∙◌}
 use lib.ListN.{length, take, drop}
-use borrow.Author.Rules.{rules}
 use Rattle.wording.specs.Words.{after, begun}
 use Rattle.wording.proofs.Spans.{part_on}
 use Rattle.wording.proofs.behind.Goals as goal

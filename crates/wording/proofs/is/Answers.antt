@@ -1,11 +1,7 @@
 -- `wording::is` meets its contract: the words are the same where what is left of them is.
 -- Assumes nothing.
-use Prim.Native.Nat.{◌-◌, ◌≤◌}
 use native.Mathlib.Omega.{arith}
-use mathlib.Core.Path.{◌≡◌, refl, sym, ◌∙◌}
-use lib.ListN.{length, drop}
-use borrow.Author.Rules.{rules}
-use Rattle.wording.specs.Words.{same}
+use mathlib.Core.Path.{sym, ◌∙◌}
 use Rattle.wording.proofs.Sames.{same_on, same_differs, same_longer, same_left}
 use Rattle.wording.proofs.is.Goals as goal
 

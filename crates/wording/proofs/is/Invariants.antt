@@ -1,10 +1,7 @@
 use Prim.Native.Nat.{◌-◌, ◌≤◌}
-use native.Mathlib.Omega.{arith}
-use mathlib.Core.Path.{◌≡◌, refl, sym, ◌∙◌}
+use mathlib.Core.Path.{◌≡◌}
 use lib.ListN.{length, drop}
-use borrow.Author.Rules.{rules}
 use Rattle.wording.specs.Words.{same}
-use Rattle.wording.proofs.Sames.{same_on, same_differs, same_longer, same_left}
 use Rattle.wording.proofs.is.Given as goal
 
 abbrev pub invariant-loop-i : goal.invariant-loop-i

@@ -1,12 +1,12 @@
 -- `wording::line_end` meets its contract: what is left of the line is what the walk has passed and what is left from there.
 -- Assumes nothing.
-use Prim.Native.Nat.{◌+◌, ◌-◌, ◌≤◌, ◌<◌}
+use Prim.Native.Nat.{◌≤◌, ◌<◌}
 use native.Mathlib.Omega.{arith}
 use mathlib.Core.Path.{◌≡◌, ap}
 use mathlib.Core.Bool.{true, false, not}
-use lib.ListN.{length, get_or, drop}
+use lib.ListN.{length, get_or}
 use borrow.Author.Tests.{eq-eqb, ne_eqb}
-use Rattle.wording.specs.Words.{is_inner, span}
+use Rattle.wording.specs.Words.{is_inner}
 use Rattle.wording.proofs.Spans.{span_on, span_stops, span_ends}
 use Rattle.wording.proofs.line_end.Goals as goal
 

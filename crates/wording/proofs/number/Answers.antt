@@ -1,10 +1,9 @@
 -- `wording::number` meets its contract: the number is what the digits left make after those passed, and 2^32 stands for all that are too large.
 -- Assumes nothing.
-use Prim.Native.Nat.{◌+◌, ◌-◌, ◌*◌, ◌^◌, ◌≤◌}
+use Prim.Native.Nat.{◌+◌, ◌-◌, ◌*◌}
 use native.Mathlib.Omega.{arith}
-use mathlib.Core.Path.{◌≡◌, sym, ◌∙◌}
-use lib.ListN.{length, get_or, drop}
-use Rattle.wording.specs.Numbers.{number_from, number_of}
+use mathlib.Core.Path.{sym, ◌∙◌}
+use lib.ListN.{get_or, drop}
 use Rattle.wording.proofs.Digits.{number_capped, number_on, number_low, number_high, number_ends, number_some, number_none, nonzero}
 use Rattle.wording.proofs.number.Goals as goal
 

@@ -1,9 +1,7 @@
-use Prim.Native.Nat.{◌+◌, ◌-◌, ◌*◌, ◌^◌, ◌≤◌}
-use native.Mathlib.Omega.{arith}
-use mathlib.Core.Path.{◌≡◌, sym, ◌∙◌}
-use lib.ListN.{length, get_or, drop}
+use Prim.Native.Nat.{◌-◌, ◌^◌, ◌≤◌}
+use mathlib.Core.Path.{◌≡◌}
+use lib.ListN.{length, drop}
 use Rattle.wording.specs.Numbers.{number_from, number_of}
-use Rattle.wording.proofs.Digits.{number_capped, number_on, number_low, number_high, number_ends, number_some, number_none, nonzero}
 use Rattle.wording.proofs.number.Given as goal
 
 abbrev pub invariant-loop-i : goal.invariant-loop-i

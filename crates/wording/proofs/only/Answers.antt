@@ -2,7 +2,6 @@
 -- Assumes nothing.
 use mathlib.Core.Path.{sym, ap, ◌∙◌}
 use lib.ListN.{length}
-use borrow.Author.Rules.{rules}
 use Rattle.wording.specs.Words.{first}
 use Rattle.wording.specs.Numbers.{number_of}
 use Rattle.wording.proofs.Alone.{only_more, only_alone}

@@ -1,10 +1,8 @@
 -- `wording::word` meets its contract: white space is passed, and the bytes up to the next are taken.
 -- Assumes nothing.
 use Prim.Native.Nat.{◌-◌}
-use mathlib.Core.Path.{◌≡◌, sym, ap, ◌∙◌}
-use lib.Seq.{length-take-le}
+use mathlib.Core.Path.{◌≡◌, ap, ◌∙◌}
 use lib.ListN.{length, take, drop}
-use borrow.Author.Rules.{rules}
 use Rattle.wording.specs.Words.{first, begun}
 use Rattle.wording.proofs.Spans.{part_on}
 use Rattle.wording.proofs.word.Goals as goal

@@ -1,8 +1,6 @@
 -- `curve::Kept::deadline` meets its contract: both pieces stand so at the later of their ticks, and where they are one at its tick.
 -- Assumes nothing.
-use Rattle.curve.proofs.Laws.Answers.{told_yes}
-use Rattle.curve.proofs.Laws.Pieces.{both_least, one_least}
-use borrow.Author.Rules.{rules}
+use Rattle.curve.proofs.Laws.Pieces.{both_least}
 use Rattle.curve.proofs.Kept.deadline.Goals as goal
 
 pub returns : goal.returns

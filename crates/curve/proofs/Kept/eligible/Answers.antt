@@ -1,7 +1,6 @@
 -- `curve::Kept::eligible` meets its contract: as `deadline`, of the curve without its delay, which rises too.
 -- Assumes nothing.
-use Rattle.curve.proofs.Laws.Answers.{told_yes}
-use Rattle.curve.proofs.Laws.Pieces.{both_least, one_least, early_rising}
+use Rattle.curve.proofs.Laws.Pieces.{both_least, early_rising}
 use borrow.Author.Rules.{rules}
 use Rattle.curve.proofs.Kept.eligible.Goals as goal
 

@@ -2,7 +2,6 @@
 -- Assumes nothing.
 use Rattle.curve.specs.Keeping.{kept_with}
 use Rattle.curve.proofs.Laws.Amount.{rising_slopes}
-use borrow.Author.Rules.{rules}
 use Rattle.curve.proofs.Kept.with.Goals as goal
 
 pub lower-requires : goal.lower-requires

@@ -1,11 +1,7 @@
 -- `curve::amounts::has_risen` meets its contract: the upper half of the product is past the parts, or the whole fits in 64 bits.
 -- Assumes nothing.
-use Prim.Native.Nat.{ℕ, ◌*◌, ◌/◌, ◌%◌, ◌≤◌, ◌<◌}
-use mathlib.Core.Path.{refl, sym}
-use native.Mathlib.Nat.{mul-le-mul}
+use mathlib.Core.Path.{sym}
 use native.Mathlib.Omega.{arith}
-use borrow.Author.Rules.{rules}
-use Rattle.curve.specs.Curves.{whole, RightRate}
 use Rattle.curve.proofs.Laws.Answers.{leb_exactly}
 use Rattle.curve.proofs.Laws.Amount.{line_halves}
 use Rattle.curve.proofs.amounts.has_risen.Goals as goal

@@ -1,7 +1,6 @@
 -- `curve::amounts::reached` meets its contract: in each arm the number worked out is the definition's, so it fits.
 -- Assumes nothing.
 use Prim.Native.Nat.{◌+◌, ◌-◌, ◌*◌, ◌<◌, ◌^◌}
-use borrow.Author.Rules.{rules}
 use native.Mathlib.Omega.{arith}
 use mathlib.Core.Path.{◌≡◌, refl}
 use Rattle.curve.specs.Curves.{amount}

@@ -1,7 +1,6 @@
 -- `curve::amounts::right` meets its contract: each arm answers for its own kind of curve.
 -- Assumes nothing.
 use Rattle.curve.specs.Curves.{RightCurve}
-use borrow.Author.Rules.{rules}
 use Rattle.curve.proofs.amounts.right.Goals as goal
 
 pub returns-in-None : goal.returns-in-None

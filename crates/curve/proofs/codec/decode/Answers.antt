@@ -1,4 +1,5 @@
 -- The curve of a kind, by the table of kinds. Assumes nothing.
+use native.Mathlib.Omega.{arith}
 use Rattle.curve.specs.Codec.{kind_curve}
 use Rattle.curve.proofs.Laws.Codec.{no_curve}
 use Rattle.curve.proofs.codec.decode.Goals as goal
@@ -16,4 +17,4 @@ unfolding kind_curve
 returns-in-3 c = cc
 
 pub returns-in_default : goal.returns-in_default
-returns-in_default c = no_curve _ _ _ _ c.in_default.in_default-own.rest.0.0.1 c.in_default.in_default-own.rest.0.1 c.in_default.in_default-own.rest.1
+returns-in_default c = no_curve _ _ _ _ (λ e. omega arith) (λ e. omega arith) (λ e. omega arith)

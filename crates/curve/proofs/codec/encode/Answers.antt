@@ -1,6 +1,5 @@
 -- The kind and the numbers of a curve, by the table of kinds. Assumes nothing.
 use mathlib.Core.Path.{refl}
-use borrow.Author.Rules.{rules}
 use Rattle.curve.specs.Codec.{code_of}
 use Rattle.curve.proofs.codec.encode.Goals as goal
 

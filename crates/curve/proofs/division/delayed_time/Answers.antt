@@ -2,7 +2,6 @@
 -- Assumes nothing.
 use native.Mathlib.Omega.{arith}
 use Rattle.curve.proofs.Laws.Division.{line_most, delayed_least}
-use borrow.Author.Rules.{rules}
 use Rattle.curve.proofs.division.delayed_time.Goals as goal
 
 pub overflow_add-result : goal.overflow_add-result

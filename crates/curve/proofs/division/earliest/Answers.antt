@@ -2,7 +2,6 @@
 -- Assumes nothing.
 use Rattle.curve.specs.Curves.{Rising}
 use Rattle.curve.proofs.Laws.Division.{straight_least}
-use borrow.Author.Rules.{rules}
 use Rattle.curve.proofs.division.earliest.Goals as goal
 
 pub rise_time-requires : goal.rise_time-requires

@@ -1,9 +1,7 @@
 -- `curve::division::front_time` meets its contract: up to what the curve has at its bend its first slope decides, past it its last.
 -- Assumes nothing.
-use native.Mathlib.Nat.{mul-le-mul}
 use native.Mathlib.Omega.{arith}
 use Rattle.curve.proofs.Laws.Division.{line_most, front_least, front_past_least}
-use borrow.Author.Rules.{rules}
 use Rattle.curve.proofs.division.front_time.Goals as goal
 
 pub returns-then-parts-turn : goal.returns-then-parts-turn

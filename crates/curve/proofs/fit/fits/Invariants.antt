@@ -1,12 +1,8 @@
 use Prim.Native.Nat.{ℕ, ◌-◌, ◌≤◌, ◌<◌}
 use lib.ListN.{get_or}
-use native.Mathlib.Omega.{arith}
-use borrow.Author.Count.{below_more}
 use Rattle.curve.specs.Curves.{in_parts, bend_of}
 use Rattle.curve.specs.Fit.{total}
 use Rattle.curve.specs.declared.Curve.TheVariants.{None}
-use Rattle.curve.proofs.Laws.Answers.{untold_no, untold_yes, exactly_iff}
-use Rattle.curve.proofs.Laws.Fit.{bends_enough, slopes_needed, fit_at, every_bend}
 use Rattle.curve.proofs.fit.fits.Given as goal
 
 abbrev pub invariant-loop-k : goal.invariant-loop-k

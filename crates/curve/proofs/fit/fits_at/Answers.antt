@@ -1,12 +1,8 @@
 -- `curve::fit::fits_at` meets its contract. Its invariant: what is left and what the curves passed have reached make up what the link sends.
 -- Assumes nothing.
-use Prim.Native.Nat.{◌+◌, ◌-◌, ◌≤◌}
-use mathlib.Core.Path.{◌≡◌}
-use lib.ListN.{take}
 use native.Mathlib.Omega.{arith}
 use Rattle.curve.specs.Curves.{amount, in_parts}
-use Rattle.curve.specs.Fit.{sum_of}
-use Rattle.curve.proofs.Laws.Sum.{Walk, walk_start, walk_on, walk_short, walk_end}
+use Rattle.curve.proofs.Laws.Sum.{walk_start, walk_on, walk_short}
 use Rattle.curve.proofs.fit.fits_at.Goals as goal
 
 pub loop-i-init : goal.loop-i-init

@@ -1,10 +1,6 @@
-use Prim.Native.Nat.{◌+◌, ◌-◌, ◌≤◌}
-use mathlib.Core.Path.{◌≡◌}
-use lib.ListN.{take}
-use native.Mathlib.Omega.{arith}
+use Prim.Native.Nat.{◌-◌}
 use Rattle.curve.specs.Curves.{amount, in_parts}
-use Rattle.curve.specs.Fit.{sum_of}
-use Rattle.curve.proofs.Laws.Sum.{Walk, walk_start, walk_on, walk_short, walk_end}
+use Rattle.curve.proofs.Laws.Sum.{Walk}
 use Rattle.curve.proofs.fit.fits_at.Given as goal
 
 abbrev pub invariant-loop-i : goal.invariant-loop-i

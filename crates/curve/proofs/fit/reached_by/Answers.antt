@@ -4,7 +4,6 @@ use native.Mathlib.Omega.{arith}
 use mathlib.Core.Path.{refl}
 use Rattle.curve.specs.Curves.{amount}
 use Rattle.curve.proofs.Laws.Amount.{amount_fits}
-use borrow.Author.Rules.{rules}
 use Rattle.curve.proofs.fit.reached_by.Goals as goal
 
 pub reached-requires : goal.reached-requires

@@ -1,12 +1,8 @@
 -- `curve::fit::slopes_fit` meets its contract. Its invariant: what is left and the last slopes passed make up the link's rate.
 -- Assumes nothing.
-use Prim.Native.Nat.{◌+◌, ◌-◌, ◌≤◌}
-use mathlib.Core.Path.{◌≡◌}
-use lib.ListN.{take}
 use native.Mathlib.Omega.{arith}
-use Rattle.curve.specs.Fit.{sum_of}
 use Rattle.curve.specs.Curves.{whole, last_slope}
-use Rattle.curve.proofs.Laws.Sum.{Walk, walk_start, walk_on, walk_short, walk_end}
+use Rattle.curve.proofs.Laws.Sum.{walk_start, walk_on, walk_short}
 use Rattle.curve.proofs.fit.slopes_fit.Goals as goal
 
 pub loop-i-init : goal.loop-i-init

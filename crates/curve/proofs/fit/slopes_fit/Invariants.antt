@@ -1,10 +1,6 @@
-use Prim.Native.Nat.{◌+◌, ◌-◌, ◌≤◌}
-use mathlib.Core.Path.{◌≡◌}
-use lib.ListN.{take}
-use native.Mathlib.Omega.{arith}
-use Rattle.curve.specs.Fit.{sum_of}
+use Prim.Native.Nat.{◌-◌}
 use Rattle.curve.specs.Curves.{whole, last_slope}
-use Rattle.curve.proofs.Laws.Sum.{Walk, walk_start, walk_on, walk_short, walk_end}
+use Rattle.curve.proofs.Laws.Sum.{Walk}
 use Rattle.curve.proofs.fit.slopes_fit.Given as goal
 
 abbrev pub invariant-loop-i : goal.invariant-loop-i

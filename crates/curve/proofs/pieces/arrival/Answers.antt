@@ -2,7 +2,6 @@
 -- Assumes nothing.
 use native.Mathlib.Omega.{arith}
 use Rattle.curve.proofs.Laws.Pieces.{arrival_least, earliest_most}
-use borrow.Author.Rules.{rules}
 use Rattle.curve.proofs.pieces.arrival.Goals as goal
 
 pub overflow_add-result : goal.overflow_add-result

@@ -3,7 +3,6 @@
 use Rattle.curve.proofs.Laws.Answers.{told_yes, told_no}
 use Rattle.curve.proofs.Laws.Pieces.{lower_new, lower_old}
 use native.Mathlib.Nat.{lt_of_not-le}
-use borrow.Author.Rules.{rules}
 use Rattle.curve.proofs.pieces.lower.Goals as goal
 
 pub returns-then-has_risen : goal.returns-then-has_risen

@@ -1,0 +1,12 @@
+use Rattle.std.proofs.Common.{◌-◌, ◌≤◌, length, sym, ◌∙◌, arith, rules}
+use borrow.Author.Tests.{not-true, not-false}
+use Rattle.state.specs.State.{Reached}
+use Rattle.state.specs.Heads.{EveryHistory}
+use Rattle.judgetext.proofs.Onward.{Onward, onward_first, onward_next, onward_stopped, onward_ended}
+use Rattle.judgetext.proofs.judge_text.Given as goal
+
+abbrev pub invariant-loop-i : goal.invariant-loop-i
+invariant-loop-i l = Reached l.words l.lengths × (l.i ≤ length l.text) × EveryHistory l.initial.words l.initial.lengths (λ h. Onward h l.initial.here l.text l.i l.here l.words l.lengths)
+
+abbrev pub decreases-loop-i : goal.decreases-loop-i
+decreases-loop-i l = length l.text - l.i
