@@ -138,6 +138,8 @@ printf '77\nt\nl\n' > tests/corpus/j.out
 # rt ci
 rt_ci 1 '39 passed, 1 failed'
 ends 'rt ci fails' 1 '39 passed, 1 failed'
+program bin/rt "[ \"\$1\" != version ] || { cat .ci/toolchain; exit; }; echo 'rt: ok, 4 crates proved, must-fail edits: 9 refused, 2 bad'; echo '40 passed, 0 failed'"
+ends 'an edit is bad' 1 'gate: a must-fail edit is bad'
 rt_ci 2 'rt: cannot go on'
 ends 'rt ci breaks' 2 'rt: cannot go on'
 rt_ci 0 'rt: ok'

@@ -6,8 +6,9 @@ set -u
 repo=$(cd "$(dirname "$0")/.." && pwd)
 room=$(mktemp -d) || exit 2
 trap 'rm -rf "$room"' EXIT
-kit=$room/kit lib=$room/kit/on/$(uname -m)/toolchain/lib
-mkdir -p "$room/repo/crates/curve" "$room/repo/target/bin" "$room/repo/target/stamp" "$kit/bin" "$lib" "$room/bin" "$room/links"
+kit=$room/kit lib=$room/kit/toolchain/lib
+for crate in curve tree file replay maketree judge judging; do mkdir -p "$room/repo/crates/$crate/out"; done
+mkdir -p "$kit/bin" "$lib" "$room/bin" "$room/links"
 cp -P "$repo/replay" "$repo/maketree" "$repo/judge" "$room/repo"
 cd "$room" || exit 2
 printf '# crates\ncurve:\ntree: curve\nfile: curve tree # a comment\nmaketree: tree file io os\nreplay: file io\njudge: curve\njudging: file io\nother: curve\n' > repo/crates.txt
@@ -25,20 +26,15 @@ program() { # FILE LINES
 # The stand-in of the loader drops its own two words. The program that rt builds says its arguments, reads a line, and ends with the digit that it is told.
 program "$lib/ld-linux-x86-64.so.2" 'shift 2; exec "$@"'
 built='echo "$0: $*" | sed "s|.*/||"; read -r word && echo "read $word"; echo on error >&2; [ "${DIGIT-0}" = none ] || { echo "${DIGIT-0}" >&9; } 2>&-; exit "${ENDS-0}"'
-# The stand-in of rt: each crate, then the program, unless its stamp says that it was built since the last change.
+# The stand-in of rt: a library, or the program, which it builds and runs.
 program kit/bin/rt "cat > /dev/null
+crate=\$(basename \"\$PWD\")
 echo 'fn some::thing: proved'
-echo 'rt: curve proved (unchanged since it was last proved)'
-echo 'rt: tree proved (3 s)'
-echo 'rt: file proved (12 s)'
-case \${RT-} in wrong) for n in \$(seq 100); do echo \"error \$n\"; done; echo \"rt: \$2 NOT PROVED (exit 1, 5 s)\"; exit 1 ;; esac
-echo \"rt: \$2 proved (5 s)\"
-[ ! -e target/stamp/\$2 ] || [ -n \"\$(find crates -newer target/stamp/\$2)\" ] || exit 0
-printf '#!/bin/sh\n%s\n' '$built' > target/bin/\$2
-chmod +x target/bin/\$2
-echo stamp > target/stamp/\$2
-echo \"rt: \$2 ran as nobody, and wrote what its file 'stdout' has (0 s)\"
-echo 'rt: ok, 4 crates proved'"
+[ \"\$1\" = run ] || exit 0
+case \${RT-} in wrong) for n in \$(seq 100); do echo \"error \$n\"; done; echo \"rt: \$crate NOT PROVED (exit 1, 5 s)\"; exit 1 ;; esac
+printf '#!/bin/sh\n%s\n' '$built' > out/\$crate
+chmod +x out/\$crate
+exit 2"
 
 agree=0 differ=0
 # Runs a command with `stdin` as standard input, and compares its status, standard output and standard error.
@@ -118,7 +114,7 @@ sleep 0.01
 touch repo/crates/curve/changed
 holds 'after a change' 0 "$ran_replay" "$proving_replay
 on error" repo/replay a b
-rm repo/target/bin/replay
+rm repo/crates/replay/out/replay
 holds 'after the program is gone' 0 "$ran_replay" "$proving_replay
 on error" repo/replay a b
 holds 'with --log' 0 'replay: --log a b
@@ -128,7 +124,7 @@ read stdin' 'on error' repo/replay --log 'a  b *' c
 holds 'judge, first run' 0 "$ran_judge" "$proving_judge
 on error" repo/judge a 5 b
 holds 'judge, second run' 0 "$ran_judge" 'on error' repo/judge a 5 b
-rm -f repo/target/bin/judging
+rm -f repo/crates/judging/out/judging
 holds 'judge, after its program is gone' 0 "$ran_judge" "$proving_judge
 on error" repo/judge a 5 b
 holds 'judge of --log' 0 'judging: --log a b
@@ -139,7 +135,7 @@ DIGIT=1 holds 'judge says 1' 1 "$ran_judge" 'on error' repo/judge a 5 b
 DIGIT=2 holds 'judge says 2' 2 "$ran_judge" 'on error' repo/judge a 5 b
 DIGIT=none holds 'judge says nothing' 1 "$ran_judge" 'on error
 judge: the program ended, and did not say whether all was done' repo/judge a 5 b
-rm -f repo/target/bin/judging
+rm -f repo/crates/judging/out/judging
 RT=wrong holds 'judge, unproved' 1 '' "$(echo "$proving_judge" | head -n 4; seq 82 100 | sed 's/^/error /'; echo 'rt: judging NOT PROVED (exit 1, 5 s)
 judge: the program is not proved, so it is not run')" repo/judge a 5 b
 
@@ -169,7 +165,7 @@ holds 'by the PATH' 0 "$ran_replay" 'on error' env PATH="$room/repo:$PATH" repla
 holds 'by another name' 2 '' 'other: no program has this name; there are replay, maketree and judge' links/other a
 
 # What is printed comes as it is printed, and not at the end.
-program repo/target/bin/replay 'echo one; read -r word; echo two; echo 0 >&9'
+program repo/crates/replay/out/replay 'echo one; read -r word; echo two; echo 0 >&9'
 mkfifo asks
 { repo/replay a b < asks; echo "status $?"; } > answers &
 exec 3> asks
