@@ -26,9 +26,9 @@ part() { # FILE STATUS LINE..
 exit $status"
 }
 
-# rt ci that prints so and ends with that status.
-rt_ci() { # STATUS LASTLINE
-    program bin/rt "[ \"\$1\" != version ] || { cat .ci/toolchain; exit; }; echo 'rt: said'; echo '$2'; exit $1"
+# rt ci that prints so and ends with that status. Its last line but one may say of edits.
+rt_ci() { # STATUS LASTLINE EDITS
+    program bin/rt "[ \"\$1\" != version ] || { cat .ci/toolchain; exit; }; echo 'rt: ok; handles allowed: none; ${3-}every proof was done in this run'; echo '$2'; exit $1"
 }
 
 # cargo: its tests and the driver, which print so and end with those statuses. The driver says first whether it is to judge, and what it is to run in C.
@@ -138,12 +138,17 @@ printf '77\nt\nl\n' > tests/corpus/j.out
 # rt ci
 rt_ci 1 '39 passed, 1 failed'
 ends 'rt ci fails' 1 '39 passed, 1 failed'
-program bin/rt "[ \"\$1\" != version ] || { cat .ci/toolchain; exit; }; echo 'rt: ok, 4 crates proved, must-fail edits: 9 refused, 2 bad'; echo '40 passed, 0 failed'"
-ends 'an edit is bad' 1 'gate: a must-fail edit is bad'
 rt_ci 2 'rt: cannot go on'
 ends 'rt ci breaks' 2 'rt: cannot go on'
 rt_ci 0 'rt: ok'
 ends 'rt ci without a count' 2 'gate: the last line of rt ci is no count'
+for bad in 1 12; do
+    rt_ci 0 '40 passed, 0 failed' "must-fail edits: 9 refused, 2 of them only by a limit, $bad bad; "
+    ends "$bad bad edits" 1 "79 passed, $bad failed"
+    tells "$bad bad edits" "gate: $bad must-fail edits are bad"
+done
+rt_ci 0 '40 passed, 0 failed' 'must-fail edits: 9 refused, 2 of them only by a limit; '
+ends 'no bad edits' 0 '79 passed, 0 failed'
 rt_ci 0 '40 passed, 0 failed'
 
 # the commands and the script

@@ -7,8 +7,7 @@ repo=$(cd "$(dirname "$0")/.." && pwd)
 room=$(mktemp -d) || exit 2
 trap 'rm -rf "$room"' EXIT
 kit=$room/kit lib=$room/kit/toolchain/lib
-for crate in curve tree file replay maketree judge judging; do mkdir -p "$room/repo/crates/$crate/out"; done
-mkdir -p "$kit/bin" "$lib" "$room/bin" "$room/links"
+mkdir -p "$room/repo/crates/curve" "$room/repo/crates/replay" "$room/repo/crates/maketree" "$room/repo/crates/judging" "$kit/bin" "$lib" "$room/bin" "$room/links"
 cp -P "$repo/replay" "$repo/maketree" "$repo/judge" "$room/repo"
 cd "$room" || exit 2
 printf '# crates\ncurve:\ntree: curve\nfile: curve tree # a comment\nmaketree: tree file io os\nreplay: file io\njudge: curve\njudging: file io\nother: curve\n' > repo/crates.txt
@@ -26,15 +25,24 @@ program() { # FILE LINES
 # The stand-in of the loader drops its own two words. The program that rt builds says its arguments, reads a line, and ends with the digit that it is told.
 program "$lib/ld-linux-x86-64.so.2" 'shift 2; exec "$@"'
 built='echo "$0: $*" | sed "s|.*/||"; read -r word && echo "read $word"; echo on error >&2; [ "${DIGIT-0}" = none ] || { echo "${DIGIT-0}" >&9; } 2>&-; exit "${ENDS-0}"'
-# The stand-in of rt: a library, or the program, which it builds and runs.
+# The stand-in of rt, which is called in the program's crate: each crate, then the program.
 program kit/bin/rt "cat > /dev/null
-crate=\$(basename \"\$PWD\")
+[ \"\$*\" = run ] || exit 2
+name=\$(basename \"\$PWD\")
 echo 'fn some::thing: proved'
-[ \"\$1\" = run ] || exit 0
-case \${RT-} in wrong) for n in \$(seq 100); do echo \"error \$n\"; done; echo \"rt: \$crate NOT PROVED (exit 1, 5 s)\"; exit 1 ;; esac
-printf '#!/bin/sh\n%s\n' '$built' > out/\$crate
-chmod +x out/\$crate
-exit 2"
+for low in curve tree file; do
+    echo \"library curve: modules loaded=3 checked=0\"
+    echo \"crate \$low: modules loaded=3 checked=1\"
+    echo 'logic=proved functions=2 sum=12'
+done
+case \${RT-} in wrong) for n in \$(seq 100); do echo \"error \$n\"; done; echo \"rt: \$name NOT PROVED (exit 1, 5 s)\"; exit 1 ;; esac
+echo \"crate \$name: modules loaded=3 checked=1\"
+echo 'logic=proved functions=2 sum=12'
+mkdir -p out
+printf '#!/bin/sh\n%s\n' '$built' > out/\$name
+chmod +x out/\$name
+echo \"rt: running out/\$name; to give it other input, run that file yourself\"
+echo \"usage: \$name\""
 
 agree=0 differ=0
 # Runs a command with `stdin` as standard input, and compares its status, standard output and standard error.

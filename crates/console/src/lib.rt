@@ -19,8 +19,7 @@ use std::{fs, io, str};
 use tree::Tree;
 pub use trees::{read_tree, tree_argument};
 
-// Where a program says its status: it has ended well, for the language, also where something is refused; the command that
-// runs it listens there.
+// Where a program says its status: descriptor 9, on which the command that runs it listens.
 const STATUS: &str = "/dev/fd/9";
 
 // The longest argument that is taken.

@@ -1,6 +1,6 @@
 /* A fair service curve scheduler for hosts in C: numbers and lent arrays, no allocation, no input or output.
  *
- * Link target/staticlib/libhost.a, the static library of the crate host_c, for x86-64 (README, "From C"). Of the C library it uses memcpy and memset.
+ * Link the static library of the crate `host_c`, which `rt lib` writes there for x86-64 and the scripts copy to target/staticlib/libhost.a. Of the C library it uses memcpy and memset.
  *
  * The state is two arrays, which the host keeps: `words` and `lengths` below. A start fills them, whatever they held. Every call after it takes
  * them as the last call left them. That is the one premise, and C can't check it. So the host owes, and what is proved rests on it:
