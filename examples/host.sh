@@ -1,5 +1,5 @@
 #!/bin/sh
-# Builds host.c with the static library of the crate `host`, runs it on studio.tree, and compares what it prints with host.out. Then the three damaged
+# Builds host.c with the static library of the crate `host_c`, runs it on studio.tree, and compares what it prints with host.out. Then the three damaged
 # files, and one that is longer than what is kept: the host has to stop with status 1, and to say the refusal and nothing else.
 # Exit status: 0 as expected; 1 it does not build, or says something else; 2 not run, for want of rt or of a C compiler for x86-64.
 # The library is for x86-64; x86-64.sh has the compiler for it.

@@ -1,6 +1,6 @@
 # What bursts.sh and judge.sh have in common, which take these lines into their own: a program in C over the functions of hfsc.h, run on stored scripts. `name` is
 # set before: NAME.c is the program, NAME/ has the scripts, NAME.script, with NAME.out, what must be printed.
-# With no argument NAME.c is built, with the static library of the crate `host`, as target/NAME; else the argument, a command, is taken in its place. All scripts are run.
+# With no argument NAME.c is built, with the static library of the crate `host_c`, as target/NAME; else the argument, a command, is taken in its place. All scripts are run.
 # It prints a line for each that differs, with the first line that does, and ends with `N cases agree, M differ`.
 # Exit status: 0 all agree; 1 it does not build, or a case differs; 2 not run, for want of rt or of a C compiler for x86-64.
 # The library is for x86-64; ../examples/x86-64.sh has the compiler for it.

@@ -129,11 +129,13 @@ fn the_measures_are_those_of_the_proofs() {
             let parts: Vec<&str> = place.split("::").collect();
             let (name, above) = parts.split_last().unwrap();
             let folder = above[1..].iter().fold(root().join("crates").join(above[0]).join("proofs"), |path, part| path.join(part));
-            let looping = folder.join(name).join("Proof.antt");
-            let (file, measure) = if looping.exists() { (looping, "μ-loop".to_string()) } else { (folder.join(format!("+{name}")).join("Proof.antt"), format!("μ-{}", name.replace('_', "-"))) };
+            let looping = folder.join(name).join("Invariants.antt");
+            let file = if looping.exists() { looping } else { folder.join(format!("+{name}")).join("Invariants.antt") };
             let said = read(&file);
-            let is = said.lines().find(|line| line.starts_with(&format!("{measure} ")) && line.contains(" = ")).unwrap_or_else(|| panic!("{place} has no measure"));
-            assert_eq!(quoted(&row[3]), [is.split(" = ").nth(1).unwrap()], "{place}");
+            let is = said.lines().find(|line| line.starts_with("decreases-") && line.contains(" l = ")).unwrap_or_else(|| panic!("{place} has no measure"));
+            // The variables of a loop, or of a call, are there fields of `l`.
+            let measure = is.split(" l = ").nth(1).unwrap().replace("l.", "");
+            assert_eq!(quoted(&row[3]), [measure], "{place}");
         }
     }
 }

@@ -1,6 +1,7 @@
 // The lines of a calls file, as docs/FORMS.md sets them down: which line is which call.
 
 #![tactic(auto)]
+
 ghost use Rattle.std.specs.Prelude.{◌≡◌};
 ghost use Rattle.calls.specs.Lines.{said, call_in, call_of, arrive_of, arrive_in};
 

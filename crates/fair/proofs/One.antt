@@ -7,7 +7,6 @@ use mathlib.Core.Logic.{⊎_elim}
 use Rattle.curve.proofs.Laws.Order.{le_or_lt}
 use Rattle.tree.specs.declared.Tree.{Tree}
 use Rattle.rules.specs.declared.Rule.TheVariants.{RealTime}
-use Rattle.rules.specs.Calls.{Call}
 use Rattle.state.specs.Heads.{SomeCalls, EveryCalls}
 use Rattle.state.specs.Table.{at, CLASSES, COLUMNS}
 use Rattle.state.specs.Columns.{SENT, VIRTUAL, ACTIVE, fair_from}

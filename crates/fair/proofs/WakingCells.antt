@@ -1,8 +1,8 @@
 -- The table after a class has started among its parent's children: five cells are stored to, and no other changes.
 -- Assumes nothing.
-use Prim.Native.Nat.{ℕ, ◌+◌, ◌≤◌, ◌<◌, max}
+use Prim.Native.Nat.{ℕ, ◌≤◌, ◌<◌}
 use native.Mathlib.Omega.{arith}
-use mathlib.Core.Path.{◌≡◌, refl, sym, ◌∙◌, ap, ap₂, subst}
+use mathlib.Core.Path.{◌≡◌, sym, ◌∙◌, ap, ap₂, subst}
 use mathlib.Core.List.{List}
 use lib.ListN.{length}
 use Rattle.curve.specs.Answers.{Least}
@@ -14,7 +14,7 @@ use Rattle.tree.specs.declared.Tree.{Tree}
 use Rattle.state.specs.Table.{at, with, CLASSES, CELLS}
 use Rattle.state.specs.Columns.{SHARE, SENT, FAIR_START, FAIR_SENT, VIRTUAL, MARK, ACTIVE, fair_from}
 use Rattle.fair.specs.Steps.{fair_in}
-use Rattle.fair.specs.StepsWaking.{Raises, VirtualStored, mark_in, kept_now, met_in, BeforeStart, FairStarted}
+use Rattle.fair.specs.StepsWaking.{Raises, VirtualStored, mark_in, kept_now, BeforeStart, FairStarted}
 use Rattle.state.proofs.Cells.{length_with, at_with_same, at_with_class, at_with_column}
 use Rattle.fair.proofs.WakingChildren.{met_soon, lower_start}
 

@@ -1,9 +1,9 @@
 -- The children of a class, met one after another by their columns: what a walk over them has gathered, and what the parent's mark is held against.
 -- Assumes nothing.
-use Prim.Native.Nat.{ℕ, zero, suc, ◌+◌, ◌-◌, ◌*◌, ◌/◌, ◌%◌, ◌^◌, ◌≤◌, ◌<◌, min, max}
+use Prim.Native.Nat.{ℕ, zero, suc, ◌+◌, ◌-◌, ◌/◌, ◌%◌, ◌^◌, ◌≤◌, ◌<◌, min}
 use native.Mathlib.Omega.{arith}
 use mathlib.Core.Path.{◌≡◌, refl, sym, ◌∙◌, ap, subst}
-use mathlib.Core.Bool.{true, false, cond, not, ◌&&◌, ◌||◌}
+use mathlib.Core.Bool.{true, false}
 use mathlib.Core.List.{List}
 use mathlib.Core.Logic.{◌⊎◌, inl, inr, ⊎_elim}
 use Rattle.curve.proofs.Laws.Order.{le_or_lt}
@@ -13,8 +13,8 @@ use Rattle.curve.proofs.Laws.Kept.{lower_either}
 use Rattle.tree.specs.declared.Tree.{Tree}
 use Rattle.tree.specs.Trees.{is_child}
 use Rattle.rules.specs.Over.{any_of, largest_of, smallest_of}
-use Rattle.rules.proofs.Tests.{never, decided, and_left, by_cond, cond_yes, cond_no}
-use Rattle.rules.proofs.Over.{any_which, largest_most, smallest_most, last_or_below}
+use Rattle.rules.proofs.Tests.{decided, and_left, by_cond, cond_yes, cond_no}
+use Rattle.rules.proofs.Over.{any_which, largest_most, smallest_most}
 use Rattle.rules.proofs.Trees.{child_class, child_some}
 use Rattle.fair.specs.declared.Spread.{Spread}
 use Rattle.state.specs.Heads.{Some}

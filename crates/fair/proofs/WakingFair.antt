@@ -1,14 +1,14 @@
 -- What an arrival makes of a class among its parent's children: nothing, unless it turns the class or one of its children active; and then a mark, a fair
 -- piece, a virtual time and one more active child. `idle` and an arrival into a waiting leaf change nothing.
 -- Assumes nothing.
-use Prim.Native.Nat.{ℕ, zero, suc, ◌+◌, ◌-◌, ◌*◌, ◌/◌, ◌≤◌, ◌<◌, min, max}
+use Prim.Native.Nat.{ℕ, zero, suc, ◌+◌, ◌/◌, ◌<◌, max}
 use native.Mathlib.Omega.{arith}
 use mathlib.Core.Path.{◌≡◌, refl, sym, ◌∙◌, ap, ap₂, subst}
 use mathlib.Core.Bool.{Bool, true, false, cond, not, ◌&&◌, ◌||◌}
 use mathlib.Core.List.{List, [], ◌∷◌}
 use mathlib.Core.Logic.{◌⊎◌, inl, inr, ⊎_elim}
 use lib.Dec.{eqb}
-use borrow.Author.Tests.{eqb-true, eqb-false, eq-eqb, ne_eqb}
+use borrow.Author.Tests.{eqb-false, ne_eqb}
 use Rattle.curve.specs.Answers.{Least}
 use Rattle.curve.specs.Curves.{RightRate}
 use Rattle.curve.specs.declared.Curve.TheVariants.{Straight}
@@ -18,24 +18,23 @@ use Rattle.curve.proofs.Laws.Kept.{lowest_more, lowest_start}
 use Rattle.tree.specs.declared.Tree.{Tree}
 use Rattle.tree.specs.Trees.{parent_of, share_of, is_child, is_leaf}
 use Rattle.rules.specs.Calls.{Call, came, left, idle}
-use Rattle.rules.specs.Limits.{weigh}
 use Rattle.rules.specs.Queues.{queue, is_nonempty, waits}
-use Rattle.rules.specs.Over.{any_of, largest_of, smallest_of}
+use Rattle.rules.specs.Over.{any_of, smallest_of}
 use Rattle.rules.specs.Classes.{is_within, sent_in, sent, active, turns_active}
 use Rattle.rules.specs.Fair.{virtual_time, is_other, mark_by_children, mark, fair_pieces, virtual_when_passive, virtual_time_of}
 use Rattle.rules.specs.Lawful.{Grown, LawfulCalls}
 use Rattle.rules.proofs.Tests.{never, decided, is_true, is_false, and_left, and_right, and_both, or_left, not_is, is_not, by_cond, cond_yes, cond_no, same_test, equal_or_not}
 use Rattle.rules.proofs.Over.{any_same, any_none, none_any, largest_none, largest_same}
-use Rattle.rules.proofs.Trees.{leaf_class, child_class, child_some, child_parent, a_child, leaf_childless, upward, within_up, within_cases, within_at_root, within_self, within_parent, within_one}
+use Rattle.rules.proofs.Trees.{leaf_class, child_class, child_some, child_parent, leaf_childless, upward, within_cases, within_at_root, within_self, within_parent, within_one}
 use Rattle.rules.proofs.Queues.{queue_came_other, waits_came, waits_leaf}
-use Rattle.rules.proofs.Active.{active_of, leaf_active, active_came, choice_waits, choice_leaf, active_idle}
+use Rattle.rules.proofs.Active.{active_of, leaf_active, active_came, choice_waits, choice_leaf}
 use Rattle.rules.proofs.Leaves.{HasPiece}
-use Rattle.rules.proofs.Fair.{start_of, pieces_turned, pieces_kept, mark_becomes, fair_in_order, when_passive_is_virtual}
+use Rattle.rules.proofs.Fair.{pieces_turned, pieces_kept, mark_becomes, fair_in_order, when_passive_is_virtual}
 use Rattle.state.specs.Table.{at}
 use Rattle.state.specs.Columns.{VIRTUAL, ACTIVE}
-use Rattle.state.specs.State.{ShowsFair, count_of, activity, fair_kept}
+use Rattle.state.specs.State.{ShowsFair, activity, fair_kept}
 use Rattle.fair.specs.StepsWaking.{other_in, others_in, met_in}
-use Rattle.state.proofs.Resting.{count_same, count_one, activity_leaf, activity_interior, parent_interior, zero_passive, passive_zero}
+use Rattle.state.proofs.Resting.{count_same, count_one, activity_interior, parent_interior, zero_passive, passive_zero}
 use Rattle.fair.proofs.RestingFair.{kept_virtual, active_started}
 
 -- `idle` "moves the clock and nothing else"

@@ -10,7 +10,7 @@ use Rattle.bursts.specs.declared.Seen.{Seen}
 use Rattle.bursts.specs.declared.Answered.{Answered}
 use Rattle.bursts.specs.declared.Answered.TheVariants.{NothingYet, Reads}
 use Rattle.bursts.specs.declared.Taken.{Taken}
-use Rattle.bursts.specs.Bursts.{Holds, Begun, Offered, ended, Ended}
+use Rattle.bursts.specs.Bursts.{Holds, Begun, Offered, Ended}
 use Rattle.bursts.specs.Theorems.{together}
 use Rattle.host.specs.Numbers.{verdict_number, verdict_class}
 use Rattle.host.specs.Promises.{StartFileTold}

@@ -2,6 +2,7 @@
 // name starts with `hfsc_`, since a linked program has one space of names.
 
 #![tactic(auto)]
+
 ghost use Rattle.std.specs.Prelude.{◌≡◌, length};
 ghost use Rattle.rules.specs.Clock.{clock};
 ghost use Rattle.rules.specs.Queues.{queue};
@@ -98,12 +99,7 @@ pub fn hfsc_arrive(
 }
 
 // The link asks for a packet. The answer is 0, with what leaves in `out`, or the number of the refusal.
-pub fn hfsc_depart(
-    words: &mut Words,
-    lengths: &mut Lengths,
-    stamp: u32,
-    out: &mut [u64; 8],
-) -> u32
+pub fn hfsc_depart(words: &mut Words, lengths: &mut Lengths, stamp: u32, out: &mut [u64; 8]) -> u32
     requires { Reached words.old lengths.old }
     ensures right { DepartTold words.old lengths.old stamp result out.new words.new lengths.new }
     ensures reached { Reached words.new lengths.new }

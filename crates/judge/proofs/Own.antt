@@ -1,10 +1,10 @@
 -- The log of a run of our own calls is accepted.
 -- Assumes nothing.
-use Prim.Native.Nat.{ℕ, zero, suc, ◌+◌, ◌*◌, ◌<◌}
+use Prim.Native.Nat.{ℕ, ◌+◌, ◌*◌}
 use native.Mathlib.Omega.{arith}
 use mathlib.Core.Path.{◌≡◌, refl, sym, ap, subst, ◌∙◌}
 use mathlib.Core.Bool.{Bool, true}
-use mathlib.Core.List.{List, [], ◌∷◌, ◌++◌}
+use mathlib.Core.List.{List, [], ◌++◌}
 use lib.ListN.{length, length-append}
 use Rattle.tree.specs.declared.Tree.{Tree}
 use Rattle.tree.specs.declared.Verdict.TheVariants.{Right}
@@ -15,13 +15,12 @@ use Rattle.rules.specs.declared.Departure.TheVariants as departure
 use Rattle.rules.specs.declared.Packet.{Packet}
 use Rattle.rules.specs.Calls.{History}
 use Rattle.rules.specs.Answers.{Starts, Arrives, Departs}
-use Rattle.records.specs.declared.Entry.{Entry}
 use Rattle.records.specs.Records.{arrival_kind, departure_kind, empty_kind, record_of, arrival_entry, departure_entry, entry_numbers}
 use Rattle.judge.specs.declared.Finding.TheVariants.{Holds}
 use Rattle.judge.specs.declared.Judgement.TheVariants as judgement
 use borrow.Author.Tests.{eq-eqb}
-use Rattle.judge.specs.Judging.{is_that, same_or, departure_finding, empty_finding, ArrivalReplayed, DepartureReplayed, Judges, ended, right, wrong, short, LogJudged, refused, replayed}
-use Rattle.judge.specs.Theorems.{Logs, started, arrived, departed, OwnLogAccepted, InParts}
+use Rattle.judge.specs.Judging.{is_that, same_or, departure_finding, empty_finding, ArrivalReplayed, DepartureReplayed, Judges, ended, right, replayed}
+use Rattle.judge.specs.Theorems.{Logs, started, arrived, departed, OwnLogAccepted}
 use Rattle.judge.proofs.Parts.{parts_judged}
 
 same_packet : (packet : Packet) → is_that packet.class packet.length packet ≡ true

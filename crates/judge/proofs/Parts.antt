@@ -1,12 +1,11 @@
 -- A log in two parts, cut at a record's end.
 -- Assumes nothing.
-use Prim.Native.Nat.{ℕ, zero, suc, ◌+◌, ◌-◌, ◌*◌, ◌<◌}
+use Prim.Native.Nat.{ℕ, ◌+◌, ◌-◌, ◌*◌}
 use native.Mathlib.Omega.{arith}
-use mathlib.Core.Path.{◌≡◌, refl, sym, ap, subst, ◌∙◌}
+use mathlib.Core.Path.{◌≡◌, refl, sym, ap, subst}
 use mathlib.Core.Bool.{Bool, true, false}
 use mathlib.Core.List.{List, [], ◌∷◌, ◌++◌}
 use lib.ListN.{length}
-use Rattle.tree.specs.declared.Tree.{Tree}
 use Rattle.rules.specs.Calls.{History}
 use Rattle.rules.proofs.Tests.{never}
 use Rattle.judge.specs.declared.Finding.{Finding}

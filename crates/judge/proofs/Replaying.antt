@@ -1,18 +1,13 @@
 -- One record replayed: what its call promises makes what the replay promises, a lawful history stays lawful, and one history allows one finding.
 -- Assumes nothing.
 use Prim.Native.Nat.{ℕ}
-use native.Mathlib.Omega.{arith}
 use mathlib.Core.Path.{◌≡◌, refl, sym, ap, ◌∙◌}
 use mathlib.Core.Bool.{false}
-use mathlib.Core.Logic.{inl, inr}
-use mathlib.Core.List.{List, [], ◌∷◌}
-use types.Run.{OneOf}
-use denote.Enum.Declared.{tag_of}
+use mathlib.Core.List.{List}
 use Rattle.rules.specs.declared.Arrival.{Arrival}
 use Rattle.rules.specs.declared.Departure.{Departure}
 use Rattle.rules.specs.Calls.{History}
 use Rattle.rules.specs.Lawful.{Lawful}
-use Rattle.rules.specs.Answers.{Departs}
 use Rattle.rules.proofs.Answers.{arrives_one, departs_one, arrives_lawful, departs_lawful}
 use Rattle.state.specs.State.{Shows}
 use Rattle.sched.specs.Promises.{ArriveRight, DepartRight}
@@ -20,8 +15,7 @@ use Rattle.records.specs.declared.Record.{Record}
 use Rattle.records.specs.declared.Record.TheVariants.{Arrived, Departed, FoundEmpty, Malformed}
 use Rattle.judge.specs.declared.Finding.{Finding}
 use Rattle.judge.specs.declared.Finding.TheVariants as finding
-use Rattle.judge.specs.contracts.Finding.{the_type}
-use Rattle.judge.specs.Judging.{holds, arrival_finding, departure_finding, empty_finding, ArrivalReplayed, DepartureReplayed, RecordReplayed}
+use Rattle.judge.specs.Judging.{holds, arrival_finding, departure_finding, empty_finding, DepartureReplayed, RecordReplayed}
 use Rattle.judge.specs.Promises.{ReplayRight}
 
 module _ {h : History} {m l : List ℕ} {found : Finding} where

@@ -2,6 +2,7 @@
 // numbers, four to a record.
 
 #![tactic(auto)]
+
 ghost use Rattle.std.specs.Prelude.{◌≡◌, ◌+◌, ◌≤◌, length, get_or};
 ghost use Rattle.records.specs.Records.{record_of};
 ghost use Rattle.state.specs.State.{Reached};

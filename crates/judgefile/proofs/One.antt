@@ -1,13 +1,12 @@
 -- The promise allows one answer, and one content of the lent memory.
 -- Assumes nothing.
 use Prim.Native.Nat.{ℕ, ◌<◌}
-use mathlib.Core.Path.{◌≡◌, refl, sym, ap, subst, ◌∙◌}
+use mathlib.Core.Path.{◌≡◌, sym, ap, subst, ◌∙◌}
 use mathlib.Core.List.{List}
 use Rattle.tree.specs.declared.Tree.{Tree}
 use Rattle.tree.specs.declared.Verdict.{Verdict}
 use Rattle.tree.specs.declared.Verdict.TheVariants.{Right}
 use Rattle.file.specs.declared.Reading.{Reading}
-use Rattle.file.specs.Format.{ReadsAs}
 use Rattle.file.proofs.ReadOne.{read_one}
 use Rattle.rules.specs.Limits.{wheel}
 use Rattle.judge.specs.declared.Judgement.{Judgement}

@@ -1,6 +1,7 @@
 // A log judged over a class-tree file, and the judgement as numbers: for hosts in C.
 
 #![tactic(auto)]
+
 ghost use Rattle.std.specs.Prelude.{◌≡◌};
 ghost use Rattle.judgefile.specs.Promises.{LogJudgedByFile, judgement_number, judgement_numbers, ours_numbers, JudgeTold};
 

@@ -1,13 +1,13 @@
 -- A text judged from its first byte on: what it comes to.
 -- Assumes nothing.
-use Rattle.std.proofs.Common.{◌≡◌, ℕ, zero, suc, ◌+◌, ◌*◌, ◌%◌, ◌^◌, ◌<◌, ◌≤◌, Bool, true, false, ◌&&◌, List, [], ◌∷◌, ◌++◌, length, sym, refl, ap, ◌∙◌, subst, ap₂, append_assoc, append-nil, zero-add, arith, length-append}
+use Rattle.std.proofs.Common.{◌≡◌, ℕ, ◌+◌, ◌*◌, ◌^◌, ◌<◌, ◌≤◌, true, false, List, [], ◌∷◌, ◌++◌, length, sym, refl, ap, ◌∙◌, subst, append_assoc, append-nil, zero-add, arith, length-append}
 use Rattle.rules.specs.Calls.{History}
 use Rattle.rules.proofs.Tests.{never}
 use Rattle.records.specs.Records.{record_of}
 use Rattle.judge.specs.declared.Finding.{Finding}
 use Rattle.judge.specs.declared.Finding.TheVariants as finding
 use Rattle.judge.specs.declared.Judgement.{Judgement}
-use Rattle.judge.specs.declared.Judgement.TheVariants.{Accepted, Malformed}
+use Rattle.judge.specs.declared.Judgement.TheVariants.{Accepted}
 use Rattle.judge.specs.Judging.{RecordReplayed, holds, judgement_at, Judges, ended, right, wrong, short}
 use Rattle.judge.proofs.Parts.{parts_judged, first_part_judged, wrong_named}
 use Rattle.logtext.specs.declared.Scan.{Scan}
@@ -19,7 +19,7 @@ use Rattle.logtext.proofs.Turns.{in_turns}
 use Rattle.judgetext.specs.declared.Held.{Held}
 use Rattle.judgetext.specs.declared.Held.TheVariants.{Nothing, Kind, Stamp, Class}
 use Rattle.judgetext.specs.declared.Standing.{Standing}
-use Rattle.judgetext.specs.declared.Standing.TheVariants.{Right, Wrong, NotANumber}
+use Rattle.judgetext.specs.declared.Standing.TheVariants.{Right}
 use Rattle.judgetext.specs.declared.Progress.{Progress}
 use Rattle.judgetext.specs.Texts as texts
 use Rattle.judgetext.specs.Texts.{before_log, is_right, held_numbers, moved, holding, one_more, completed, wrong_at, stuck, TakesTo, ReadsSeen, TextFollows, whole_or, judgement_of}

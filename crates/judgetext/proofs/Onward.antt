@@ -1,6 +1,6 @@
 -- A text judged from the front: how far it has come, and each way in which it goes on or ends.
 -- Assumes nothing.
-use Rattle.std.proofs.Common.{◌≡◌, ℕ, suc, ◌+◌, ◌<◌, ◌≤◌, true, false, List, [], ◌∷◌, length, get_or, drop, sym, refl, ap, ◌∙◌, subst, arith, length-drop}
+use Rattle.std.proofs.Common.{◌≡◌, ℕ, ◌+◌, ◌<◌, true, false, List, length, get_or, drop, sym, subst, arith, length-drop}
 use Rattle.rules.specs.Calls.{History}
 use Rattle.rules.specs.Lawful.{Lawful}
 use Rattle.state.specs.State.{Shows}
@@ -14,7 +14,7 @@ use Rattle.logtext.specs.Scans.{seen_at}
 use Rattle.judgetext.specs.declared.Held.{Held}
 use Rattle.judgetext.specs.declared.Held.TheVariants.{Nothing, Kind, Stamp, Class}
 use Rattle.judgetext.specs.declared.Progress.{Progress}
-use Rattle.judgetext.specs.Texts.{is_right, moved, TakesTo, Takes, ReadsSeen, ReadsByte, TextFollows, ended, stopped, read}
+use Rattle.judgetext.specs.Texts.{is_right, moved, TakesTo, ReadsSeen, TextFollows, ended, stopped, read}
 use Rattle.judgetext.specs.Promises.{ByteRight, TextRight}
 
 -- a lawful history stays lawful

@@ -1,15 +1,12 @@
 -- The text of a log of our own calls is accepted.
 -- Assumes nothing.
-use Rattle.std.proofs.Common.{◌≡◌, ℕ, Bool, true, false, ◌&&◌, List, ◌∷◌, sym, refl, ap, ◌∙◌, subst}
+use Rattle.std.proofs.Common.{◌≡◌, ℕ, true, List, ◌∷◌, sym, ap, ◌∙◌, subst}
 use Rattle.rules.specs.Calls.{History}
 use Rattle.rules.proofs.Tests.{never, and_left, and_right}
-use Rattle.judge.specs.declared.Judgement.{Judgement}
 use Rattle.judge.specs.declared.Judgement.TheVariants.{Accepted}
 use Rattle.judge.specs.Judging.{Judges, replayed}
 use Rattle.judge.proofs.One.{judge_one}
 use Rattle.judge.proofs.Own.{own_log_accepted}
-use Rattle.logtext.specs.declared.Seen.{Seen}
-use Rattle.logtext.specs.declared.Seen.TheVariants as seen
 use Rattle.logtext.specs.Scans.{before_text, seen_at}
 use Rattle.logtext.specs.Texts.{is_no_error, numbers_of, is_well, scan_over}
 use Rattle.logtext.proofs.Turns.{in_turns}

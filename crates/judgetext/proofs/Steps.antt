@@ -1,17 +1,15 @@
 -- A number and a byte more: what the steps make of the promises.
 -- Assumes nothing.
-use Rattle.std.proofs.Common.{◌≡◌, ℕ, Bool, true, false, List, [], ◌∷◌, sym, refl, ap, ◌∙◌, subst, inl, inr, arith}
+use Rattle.std.proofs.Common.{◌≡◌, ℕ, false, List, [], ◌∷◌, sym, refl, ap, ◌∙◌, subst, inl, inr, arith}
 use types.Run.{OneOf}
 use denote.Enum.Declared.{tag_of}
 use Rattle.rules.specs.Calls.{History}
 use Rattle.rules.proofs.Tests.{never}
 use Rattle.state.specs.State.{Shows}
-use Rattle.records.specs.Records.{record_of}
 use Rattle.judge.specs.declared.Finding.{Finding}
 use Rattle.judge.specs.declared.Finding.TheVariants as finding
 use Rattle.judge.specs.Judging.{holds}
 use Rattle.judge.specs.declared.Judgement.TheVariants.{Accepted, Malformed}
-use Rattle.judge.specs.Promises.{ReplayRight}
 use Rattle.logtext.specs.declared.Seen.{Seen}
 use Rattle.logtext.specs.Scans.{seen_at}
 use Rattle.judgetext.specs.declared.Held.{Held}

@@ -1,6 +1,7 @@
 // The text of a log, judged as it comes: byte by byte, so that it does not matter in which turns it is read.
 
 #![tactic(auto)]
+
 ghost use Rattle.std.specs.Prelude.{◌≡◌};
 ghost use Rattle.state.specs.State.{Reached};
 ghost use Rattle.state.specs.Heads.{EveryHistory};

@@ -1,6 +1,6 @@
 -- The text of a log, as it is printed, reads as the log's numbers.
 -- Assumes nothing.
-use Rattle.std.proofs.Common.{◌≡◌, ℕ, zero, suc, ◌*◌, List, [], ◌∷◌, ◌++◌, length, refl, arith}
+use Rattle.std.proofs.Common.{zero, suc, [], ◌∷◌, refl, arith}
 use Rattle.logtext.specs.Scans.{next_line}
 use Rattle.logtext.specs.Texts.{numbers_of, scan_over, is_well}
 use Rattle.logtext.specs.Theorems.{log_text, Narrow, lines_on, LogReads}

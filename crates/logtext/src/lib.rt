@@ -1,6 +1,7 @@
 // The text of a log, scanned byte by byte, as docs/FORMS.md sets it down.
 
 #![tactic(auto)]
+
 ghost use Rattle.std.specs.Prelude.{◌≡◌};
 ghost use Rattle.logtext.specs.Scans.{kind_of, shown, shown_between, shown_in, seen_at, before_text, longer, next_line, between, onward, passed, stepped};
 

@@ -1,7 +1,7 @@
 -- An answer is found again from the words of its line.
 -- Assumes nothing.
 use Prim.Native.Nat.{ℕ, ◌+◌, ◌-◌, ◌*◌, ◌/◌}
-use mathlib.Core.Path.{◌≡◌, refl, sym, ap, ◌∙◌}
+use mathlib.Core.Path.{◌≡◌, refl}
 use mathlib.Core.Bool.{Bool, cond}
 use mathlib.Core.List.{List, [], ◌∷◌, ◌++◌}
 use native.Mathlib.Omega.{arith}
@@ -23,7 +23,7 @@ use Rattle.print.specs.declared.Wrong.{Wrong}
 use Rattle.print.specs.declared.Wrong.TheVariants.{NotACall, NotAClass, NotANumber, TooLarge, StartFirst, StartedAlready, TreeFirst, NextClass}
 use Rattle.print.specs.declared.Answer.{Answer}
 use Rattle.print.specs.declared.Answer.TheVariants.{Started, TreeRefused, Accepted, Refused, Leaves, NoneWaits, TreeHead, ClassOf, Faulty}
-use Rattle.print.specs.Spelled.{started_word, refused_word, class_word, accepted_word, number_word, packet_word, fair_word, none_word, tree_word, straight_word, front_loaded_word, line_word, not_word, call_word, comes_word}
+use Rattle.print.specs.Spelled.{started_word, refused_word, class_word, accepted_word, number_word, packet_word, fair_word, none_word, tree_word, straight_word, front_loaded_word, not_word, call_word, comes_word}
 use Rattle.print.specs.Lines.{word_of_rule, words_of_times, words_of_curve, words_of_wrong, head_of, words_of}
 
 -- the number that a word is, and the one that stands before a colon

@@ -1,6 +1,7 @@
 // Prints: the line of an answer and the text of a tree, as docs/FORMS.md sets them down, into a buffer that is lent.
 
 #![tactic(auto)]
+
 ghost use Rattle.std.specs.Prelude.{◌≡◌, ◌≤◌};
 ghost use Rattle.print.specs.Lines.{start_answer, arrival_answer, departure_answer};
 ghost use Rattle.print.specs.Promises.{PrintsLine, PrintsTree, PrintsNumber, line_room};

@@ -1,6 +1,7 @@
 // Prints the lines of a judged log, and of a log's record, as docs/FORMS.md sets them down, into a buffer that is lent.
 
 #![tactic(auto)]
+
 ghost use Rattle.std.specs.Prelude.{◌∷◌, ◌++◌, ◌+◌, ◌≤◌, length};
 ghost use Rattle.wording.specs.Letters.{space};
 ghost use Rattle.wording.specs.Decimal.{decimal};
@@ -9,8 +10,8 @@ ghost use Rattle.printlog.specs.Spelled.{record_word};
 ghost use Rattle.printlog.specs.Lines.{with_colon, log_line_of};
 ghost use Rattle.printlog.specs.Promises.{PrintsLogLine, PrintsEntry, log_line_room};
 
-use records::Entry;
 use print::{Answer, put};
+use records::Entry;
 use tree::Refusal;
 
 // Room for any line.

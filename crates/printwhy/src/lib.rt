@@ -2,6 +2,7 @@
 // a buffer that is lent.
 
 #![tactic(auto)]
+
 ghost use Rattle.std.specs.Prelude.{◌+◌, ◌*◌, ◌≤◌, length};
 ghost use Rattle.tree.specs.Trees.{most_classes};
 ghost use Rattle.reason.specs.Reasons.{numbers};

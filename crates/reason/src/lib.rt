@@ -1,6 +1,7 @@
 // Why a departure would take from a leaf or not, and the line of a sheet that says so.
 
 #![tactic(auto)]
+
 ghost use Rattle.std.specs.Prelude.{◌≡◌, ◌+◌, ◌≤◌, length};
 ghost use Rattle.reason.specs.Reasons.{numbers, values_of, number_of, reason_of};
 ghost use Rattle.reason.specs.Lines.{PutLine};

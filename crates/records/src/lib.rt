@@ -1,6 +1,7 @@
 // The records of a log, four numbers each: what they say, and the record that a call leaves in the log of its run.
 
 #![tactic(auto)]
+
 ghost use Rattle.std.specs.Prelude.{◌≡◌};
 ghost use Rattle.records.specs.Records.{record_of, arrival_entry, departure_entry};
 

@@ -2,6 +2,7 @@
 // themselves, and the guarantee, are the definitions and theorems of specs/ and proofs/.
 
 #![tactic(auto)]
+
 ghost use Rattle.std.specs.Prelude.{◌≡◌};
 ghost use Rattle.rules.specs.Limits as limits;
 ghost use Rattle.rules.specs.Clock.{elapsed_ticks};

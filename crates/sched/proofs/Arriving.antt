@@ -19,7 +19,7 @@ use Rattle.rules.specs.Limits.{longest, room, last_tick, most_bytes_accepted, wh
 use Rattle.rules.specs.Calls.{Call, came, History}
 use Rattle.rules.specs.Clock.{clock, last_stamp}
 use Rattle.rules.specs.Queues.{queue, is_nonempty, waits, head_number, next_number, accepted_in, accepted}
-use Rattle.rules.specs.Leaves.{sent_real_time_in, sent_real_time}
+use Rattle.rules.specs.Leaves.{sent_real_time_in}
 use Rattle.rules.specs.Choice.{has_curve}
 use Rattle.rules.specs.Lawful.{Lawful, LawfulCalls, Allowed}
 use Rattle.rules.specs.Answers.{passed, refused, outcome, ticks, next_clock, leaf_checks, arrival_checks, with_call}

@@ -3,7 +3,6 @@
 use Prim.Native.Nat.{ℕ, ◌<◌}
 use mathlib.Core.Path.{◌≡◌, refl, sym, ◌∙◌, ap, subst, transport}
 use mathlib.Core.List.{List, [], ◌∷◌}
-use native.Mathlib.Omega.{arith}
 use Rattle.tree.specs.declared.Tree.{Tree}
 use Rattle.tree.specs.declared.Refusal.{Refusal}
 use Rattle.rules.specs.declared.Departure.{Departure}
@@ -13,9 +12,9 @@ use Rattle.rules.specs.declared.Rule.{Rule}
 use Rattle.rules.specs.Limits.{wheel}
 use Rattle.rules.specs.Calls.{Call, left, idle, History}
 use Rattle.rules.specs.Clock.{clock}
-use Rattle.rules.specs.Queues.{queue, head_number, next_number, accepted_in, accepted}
+use Rattle.rules.specs.Queues.{queue, head_number, next_number, accepted_in}
 use Rattle.rules.specs.Leaves.{sent_real_time_in, pieces}
-use Rattle.rules.specs.Classes.{sent_in, sent, active}
+use Rattle.rules.specs.Classes.{sent_in, active}
 use Rattle.rules.specs.Fair.{mark, fair_pieces}
 use Rattle.rules.specs.Choice.{Choice, NothingWaits}
 use Rattle.rules.specs.Lawful.{Allowed, Lawful}

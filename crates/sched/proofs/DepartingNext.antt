@@ -1,6 +1,6 @@
 -- The leaf after its head left: the next head's times, or the leaf turns passive.
 -- Assumes nothing.
-use Prim.Native.Nat.{ℕ, ◌+◌, ◌*◌, ◌%◌, ◌≤◌, ◌<◌}
+use Prim.Native.Nat.{ℕ, ◌+◌, ◌≤◌, ◌<◌}
 use mathlib.Core.Path.{◌≡◌, refl, sym, ◌∙◌, ap, subst}
 use mathlib.Core.Bool.{true, false}
 use mathlib.Core.List.{List, [], ◌∷◌}
@@ -27,9 +27,9 @@ use Rattle.rules.proofs.Active.{choice_waits, numbers}
 use Rattle.rules.proofs.Sent.{weigh_some, c_below_w, w_most}
 use Rattle.rules.proofs.Leaves.{pieces_in_order, has_piece}
 use Rattle.state.specs.Table.{at, CLASSES, slot_of}
-use Rattle.state.specs.Columns.{KIND, NEXT_NUMBER, HEAD_NUMBER, SENT_REAL_TIME, STEEP_START, STEEP_SENT, FLAT_START, FLAT_SENT, ELIGIBLE, DEADLINE, ACTIVE, NEVER}
+use Rattle.state.specs.Columns.{KIND, NEXT_NUMBER, HEAD_NUMBER, STEEP_START, STEEP_SENT, FLAT_START, FLAT_SENT, ELIGIBLE, DEADLINE, ACTIVE, NEVER}
 use Rattle.state.specs.State.{kept_for, has_times, ShowsTree}
-use Rattle.state.specs.Steps.{curve_in, kept_in, with_times, SentIsDue, RipeTick, DueTick, LeafOnly, Planted, Timable, NextRipe, NextTimed, untimed, timed, ShowsTimes}
+use Rattle.state.specs.Steps.{kept_in, with_times, SentIsDue, RipeTick, DueTick, LeafOnly, Planted, Timable, NextRipe, NextTimed, untimed, timed, ShowsTimes}
 use Rattle.fair.specs.Steps.{BeforeRest, AfterRest}
 use Rattle.sched.specs.StepsDeparting.{BeforeSettle, AfterSettle}
 use Rattle.state.proofs.LeafCells.{kind_none, kind_some, curve_in_lem, narrow_code, curve_rises, kept_curved, kept_soon, tree_cells, only_none, times_with}

@@ -6,7 +6,6 @@ use mathlib.Core.Bool.{false, cond, ◌&&◌}
 use mathlib.Core.List.{List, []}
 use mathlib.Core.Logic.{⊎_elim}
 use native.Mathlib.Omega.{arith}
-use lib.ListN.{length}
 use Rattle.curve.specs.declared.Piece.{Piece}
 use Rattle.curve.specs.declared.Kept.{Kept}
 use Rattle.curve.proofs.Laws.Kept.{lowest_none, kept_none}
@@ -17,9 +16,9 @@ use Rattle.tree.specs.Trees.{class_at, share_of, curve_of, is_leaf, is_child, em
 use Rattle.tree.proofs.Right.{root, parent_lower}
 use Rattle.rules.specs.Limits.{wheel}
 use Rattle.rules.specs.Clock.{clock}
-use Rattle.rules.specs.Queues.{queue, waits, next_number, head_number, accepted_in, accepted}
-use Rattle.rules.specs.Leaves.{sent_real_time_in, sent_real_time, pieces}
-use Rattle.rules.specs.Classes.{is_within, sent_in, sent, active}
+use Rattle.rules.specs.Queues.{queue, waits, next_number, head_number, accepted_in}
+use Rattle.rules.specs.Leaves.{sent_real_time_in, pieces}
+use Rattle.rules.specs.Classes.{is_within, sent_in, active}
 use Rattle.rules.specs.Fair.{mark, fair_pieces, virtual_time}
 use Rattle.rules.specs.Choice.{has_curve}
 use Rattle.rules.proofs.Tests.{never, is_false, and_right, by_cond}

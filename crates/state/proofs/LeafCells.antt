@@ -25,7 +25,7 @@ use Rattle.rules.specs.Calls.{Call}
 use Rattle.rules.specs.Clock.{clock}
 use Rattle.rules.specs.Leaves.{pieces}
 use Rattle.rules.specs.Choice.{has_curve}
-use Rattle.rules.specs.Lawful.{Grown, right, LawfulCalls}
+use Rattle.rules.specs.Lawful.{Grown, LawfulCalls}
 use Rattle.rules.proofs.Tests.{by_cond}
 use Rattle.rules.proofs.Trees.{curve_rising}
 use Rattle.rules.proofs.Sent.{clock_most}

@@ -29,7 +29,7 @@ use Rattle.rules.proofs.Trees.{leaf_class, curve_rising}
 use Rattle.rules.proofs.Sent.{weigh_some, c_below_w, w_most}
 use Rattle.rules.proofs.Leaves.{pieces_in_order}
 use Rattle.state.specs.Table.{at, CLASSES}
-use Rattle.state.specs.Columns.{KIND, SENT_REAL_TIME, ELIGIBLE, DEADLINE}
+use Rattle.state.specs.Columns.{KIND, SENT_REAL_TIME}
 use Rattle.state.specs.State.{kept_for, ShowsTree}
 use Rattle.state.specs.Steps.{curve_in, kept_in, with_kept, with_times, RipeTick, DueTick, NarrowCode, KeptSoon, LeafOnly, BeforeTiming, AfterTiming}
 use Rattle.state.proofs.LeafCells.{kind_none, kind_some, curve_in_lem, narrow_code, curve_rises, kept_curved, kept_bare, kept_soon, tree_cells, only_none, only_then, only_kept, kept_with_lem, curve_same, times_with}

@@ -22,7 +22,7 @@ use Rattle.rules.proofs.Tests.{never, decided, equal_or_not}
 use Rattle.rules.proofs.Choice.{choice_one}
 use Rattle.rules.proofs.Active.{choice_waits}
 use Rattle.state.specs.declared.choice.Sender.{Sender}
-use Rattle.state.specs.Table.{at, with, COLUMNS, CLASSES}
+use Rattle.state.specs.Table.{at, COLUMNS, CLASSES}
 use Rattle.state.specs.Columns.{HEADER, CHILD, SIBLING, SENT, FAIR_START, FAIR_SENT, VIRTUAL, MARK, ACTIVE, fair_from, STEEP_START, STEEP_SENT, FLAT_START, FLAT_SENT, ELIGIBLE, DEADLINE, times_from}
 use Rattle.state.specs.State.{ShowsFair}
 use Rattle.state.specs.Steps.{kept_in, LeafTimed, BeforeTiming, AfterTiming, RipeTick, DueTick, NextRipe, NextTimed, untimed, timed, with_times}

@@ -2,6 +2,7 @@
 // table holds, the times of a leaf, the choice, the clock. Hosts call `sched`.
 
 #![tactic(auto)]
+
 pub mod choice;
 pub mod leaf;
 pub mod planting;

@@ -1,15 +1,14 @@
 -- A tree of right shape, for the layers above: what each of its classes is like, whatever its curves add up to.
 -- Assumes nothing.
-use Prim.Native.Nat.{ℕ, zero, suc, ◌≤◌, ◌<◌}
+use Prim.Native.Nat.{ℕ, zero, suc, ◌<◌}
 use mathlib.Core.Bool.{true, false}
 use mathlib.Core.Path.{◌≡◌, refl, ap, ◌∙◌}
 use native.Mathlib.Omega.{arith}
 use Rattle.curve.specs.Curves.{RightRate, RightCurve, Rising}
-use Rattle.curve.specs.Fit.{CurvesFit}
 use Rattle.curve.specs.declared.Curve.TheVariants.{None}
 use Rattle.curve.proofs.Laws.Limits.{none_right, right_rising}
-use Rattle.tree.specs.Rules.{RightRoot, RightOther, RightShape, RightTree}
-use Rattle.tree.specs.Trees.{deepest, class_at, parent_of, share_of, curve_of, has_child, is_leaf, depth, curves_of}
+use Rattle.tree.specs.Rules.{RightRoot, RightOther, RightShape}
+use Rattle.tree.specs.Trees.{deepest, class_at, parent_of, share_of, curve_of, has_child, is_leaf, depth}
 use Rattle.tree.specs.declared.Tree.{Tree}
 use Rattle.tree.proofs.Children.{ChildOf, child_has, childless_leaf, is_false}
 use Rattle.tree.proofs.Classes.{right_root, right_other}

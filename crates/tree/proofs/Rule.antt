@@ -1,6 +1,6 @@
 -- The check of one rule: at most one verdict, at least one where the rule can be tested, and the same verdict for the same facts.
 -- Assumes nothing.
-use Prim.Native.Nat.{ℕ, zero, ◌≤◌, ◌<◌}
+use Prim.Native.Nat.{ℕ, ◌≤◌, ◌<◌}
 use mathlib.Core.Path.{◌≡◌, sym, ap₂, ◌∙◌}
 use mathlib.Core.Logic.{⊎_elim}
 use native.Mathlib.Nat.{le_antisymm}

@@ -3,21 +3,20 @@
 use Prim.Native.Nat.{ℕ}
 use native.Mathlib.Omega.{arith}
 use mathlib.Core.Path.{◌≡◌, refl, sym, ap, ◌∙◌}
-use mathlib.Core.Bool.{true, false}
+use mathlib.Core.Bool.{true}
 use mathlib.Core.List.{List, [], ◌∷◌, ◌++◌, append_assoc}
 use lib.ListN.{length, take, length-append}
 use lib.Seq.{take-append_seam, take_at}
 use Rattle.wording.specs.Letters.{line_feed}
-use Rattle.wording.specs.Words.{first, after, same}
-use Rattle.wording.specs.Numbers.{number_of}
+use Rattle.wording.specs.Words.{first, same}
 use Rattle.wording.specs.Decimal.{decimal}
 use Rattle.wording.proofs.Plain.{is_text, every, every_append, plain_text, plain_inner, uncommented_all}
 use Rattle.curve.specs.declared.Curve.{Curve}
 use Rattle.curve.specs.declared.Curve.TheVariants.{None, Straight, FrontLoaded, Delayed}
 use Rattle.tree.specs.declared.Class.{Class}
 use Rattle.print.specs.declared.Answer.TheVariants as answer
-use Rattle.print.specs.Spelled.{tree_word, class_word, parent_word, share_word, none_word, straight_word, front_loaded_word, delayed_word}
-use Rattle.print.specs.Lines.{words_of, words_of_curve, further, line_of}
+use Rattle.print.specs.Spelled.{class_word, parent_word, share_word, none_word, straight_word, front_loaded_word, delayed_word}
+use Rattle.print.specs.Lines.{words_of, words_of_curve, line_of}
 use Rattle.treetext.specs.declared.Entry.TheVariants.{ClassOf}
 use Rattle.treetext.specs.declared.Form.TheVariants.{Right}
 use Rattle.treetext.specs.declared.Curved.{Curved}

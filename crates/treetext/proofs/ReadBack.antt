@@ -1,13 +1,12 @@
 -- The text of a right tree is read as that tree.
 -- Assumes nothing.
 use Prim.Native.Nat.{ℕ, zero, suc, ◌+◌, ◌≤◌, ◌<◌, min}
-use native.Mathlib.Numerals.{add-one}
 use native.Mathlib.Omega.{arith}
 use mathlib.Core.Path.{◌≡◌, refl, sym, ap, subst, ◌∙◌}
 use mathlib.Core.Bool.{Bool, true, false}
 use mathlib.Core.List.{List, [], ◌∷◌, ◌++◌, append_assoc}
 use lib.Dec.{eqb}
-use lib.ListN.{length, take, drop, set, get_or, length-append, length-set, length-replicate}
+use lib.ListN.{length, length-append, length-set, length-replicate}
 use lib.Seq.{take-append_seam, drop-append-add, get_or-set_same, get_or-set_other}
 use borrow.Author.Tests.{eq-eqb, eqb-true, eqb-false, le-ltb}
 use Rattle.wording.specs.Letters.{line_feed}
@@ -19,14 +18,13 @@ use Rattle.curve.specs.declared.Curve.TheVariants.{None, Straight, FrontLoaded, 
 use Rattle.tree.specs.declared.Class.{Class}
 use Rattle.tree.specs.declared.Tree.{Tree}
 use Rattle.tree.specs.Trees.{most_classes, no_class, class_at, empty_tree}
-use Rattle.tree.specs.Rules.{RightClass, RightTree}
+use Rattle.tree.specs.Rules.{RightClass}
 use Rattle.print.specs.declared.Answer.TheVariants as answer
 use Rattle.print.specs.Lines.{further, line_of, class_lines, tree_text}
-use Rattle.treetext.specs.declared.Entry.TheVariants.{ClassOf}
 use Rattle.treetext.specs.declared.Fault.TheVariants.{Nowhere}
 use Rattle.treetext.specs.declared.Draft.{Draft}
 use Rattle.treetext.specs.Entries.{head_in, entry_in, entry_of}
-use Rattle.treetext.specs.Texts.{lines_of, blank_draft, opened, grown, with_entry, is_done, with_line, with_lines, tree_in}
+use Rattle.treetext.specs.Texts.{lines_of, blank_draft, opened, grown, is_done, with_line, with_lines, tree_in}
 use Rattle.treetext.specs.Theorems.{NarrowCurve, NarrowClass, TextSays}
 use Rattle.treetext.proofs.TextLines.{lines_some}
 use Rattle.treetext.proofs.ClassLine.{class_line, line_inner, line_ended, line_says}

@@ -2,13 +2,13 @@
 -- Assumes nothing.
 use Prim.Native.Nat.{ℕ, ◌^◌, ◌<◌}
 use mathlib.Core.Path.{◌≡◌, refl, ap, ◌∙◌}
-use mathlib.Core.Bool.{Bool, true, false}
+use mathlib.Core.Bool.{Bool, true}
 use mathlib.Core.List.{List, [], ◌∷◌, ◌++◌, append_assoc}
 use lib.ListN.{length}
 use borrow.Author.Tests.{lt-ltb}
 use Rattle.wording.specs.Letters.{space, line_feed}
 use Rattle.wording.specs.declared.Operand.TheVariants.{Of}
-use Rattle.wording.specs.Words.{span, first, after, same}
+use Rattle.wording.specs.Words.{span, first, after}
 use Rattle.wording.specs.Numbers.{number_of, only_in}
 use Rattle.wording.specs.Decimal.{decimal}
 use Rattle.wording.proofs.Sames.{equal_same}

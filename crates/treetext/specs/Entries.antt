@@ -1,14 +1,12 @@
 -- What a line of a tree's text says, as docs/FORMS.md sets it down.
 -- Assumes nothing.
-use Rattle.std.specs.Prelude.{ℕ, Bool, true, false, cond, List, [], ◌∷◌}
+use Rattle.std.specs.Prelude.{ℕ, cond, List, [], ◌∷◌}
 use Rattle.wording.specs.declared.Operand.{Operand}
 use Rattle.wording.specs.declared.Operand.TheVariants.{Of, NotANumber}
 use Rattle.wording.specs.declared.Operand.TheVariants as operand
 use Rattle.wording.specs.Words.{uncommented, first, after, same}
 use Rattle.wording.specs.Numbers.{number_of, only_if, only_in}
-use Rattle.curve.specs.declared.Curve.{Curve}
 use Rattle.curve.specs.declared.Curve.TheVariants.{None, Straight, FrontLoaded, Delayed}
-use Rattle.tree.specs.declared.Class.{Class}
 use Rattle.print.specs.Spelled.{tree_word, class_word, parent_word, share_word, none_word, straight_word, front_loaded_word, delayed_word}
 use Rattle.treetext.specs.declared.Entry.{Entry}
 use Rattle.treetext.specs.declared.Entry.TheVariants.{Nothing, Head, ClassOf, NotAClass}

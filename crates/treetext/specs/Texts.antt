@@ -1,6 +1,6 @@
 -- The tree that a text is, or the first line of it that is wrong, as docs/FORMS.md sets it down.
 -- Assumes nothing.
-use Rattle.std.specs.Prelude.{ℕ, ◌+◌, Bool, true, false, cond, not, ◌||◌, List, [], ◌∷◌, set, ltb, eqb}
+use Rattle.std.specs.Prelude.{ℕ, ◌+◌, Bool, true, false, cond, ◌||◌, List, [], ◌∷◌, set, ltb, eqb}
 use Rattle.wording.specs.Letters.{line_feed}
 use Rattle.tree.specs.declared.Class.{Class}
 use Rattle.tree.specs.declared.Tree.{Tree}

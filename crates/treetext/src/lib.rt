@@ -1,6 +1,7 @@
 // The text of a tree, as docs/FORMS.md sets it down: which tree a text is, or which of its lines is wrong.
 
 #![tactic(auto)]
+
 ghost use Rattle.std.specs.Prelude.{◌≡◌, ◌+◌, ◌^◌, ◌≤◌, ◌<◌};
 ghost use Rattle.treetext.specs.Entries.{entry_of, entry_in, head_in, class_in, class_of, curve_in, none_in, straight_in, front_loaded_in, delayed_in, labelled, form_of, value_of, worse};
 ghost use Rattle.treetext.specs.Texts.{tree_in, with_line, with_entry, passed, faulty, with_head, classed, with_class, is_done, blank_draft};

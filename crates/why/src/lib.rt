@@ -1,6 +1,7 @@
 // Why a departure would take from each leaf or not: a sheet with a line for every leaf. Nothing of the state is changed.
 
 #![tactic(auto)]
+
 ghost use Rattle.std.specs.Prelude.{◌≡◌, List, ℕ, ◌≤◌};
 ghost use Rattle.rules.specs.Limits.{last_tick};
 ghost use Rattle.state.specs.State.{Reached};

@@ -1,7 +1,6 @@
 -- `calls::arrive` meets its contract: the operands are the definition's.
 -- Assumes nothing.
 use mathlib.Core.Path.{ap, ◌∙◌}
-use borrow.Author.Rules.{rules}
 use Rattle.wording.specs.Words.{first, after}
 use Rattle.wording.specs.Numbers.{number_of, only_in}
 use Rattle.calls.specs.Lines.{arrive_in}

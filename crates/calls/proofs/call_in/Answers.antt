@@ -2,7 +2,6 @@
 -- Assumes nothing.
 use mathlib.Core.Path.{sym, ap, ◌∙◌}
 use lib.ListN.{length}
-use borrow.Author.Rules.{rules}
 use Rattle.calls.specs.declared.Line.TheVariants.{Start, Depart}
 use Rattle.wording.specs.Words.{same}
 use Rattle.wording.specs.Numbers.{only_in}

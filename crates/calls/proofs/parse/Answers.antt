@@ -1,7 +1,6 @@
 -- `calls::parse` meets its contract: the comment is cut, and the words are read.
 -- Assumes nothing.
 use mathlib.Core.Path.{ap, ◌∙◌}
-use borrow.Author.Rules.{rules}
 use Rattle.calls.specs.Lines.{said, call_in}
 use Rattle.calls.proofs.parse.Goals as goal
 

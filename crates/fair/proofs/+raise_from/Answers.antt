@@ -1,6 +1,5 @@
 -- The proof of the cycle of calls {raise_from}: each call brings up one class, and goes on with its parent. The measure is the class's number.
 -- Assumes nothing.
-use Prim.Native.Nat.{ℕ, ◌<◌}
 use native.Mathlib.Omega.{arith}
 use Rattle.fair.proofs.RestingSteps.{some_of}
 use Rattle.fair.proofs.RestingLift.{lifting_narrow, lifting_sum, lifted_last, raises_here, falls_step, lifting_step, lifted_step}

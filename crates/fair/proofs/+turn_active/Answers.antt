@@ -2,9 +2,9 @@
 -- the class, since a parent has a lower number.
 -- Assumes nothing.
 use Prim.Native.Nat.{ℕ, ◌<◌}
-use mathlib.Core.Path.{◌≡◌, subst}
+use mathlib.Core.Path.{subst}
 use native.Mathlib.Omega.{arith}
-use Rattle.fair.proofs.WakingTurn.{turned_root, turn_narrow, turn_parent, turn_lower, turn_start, turn_busy, turn_on, turn_on_done, turn_done}
+use Rattle.fair.proofs.WakingTurn.{turned_root, turn_parent, turn_lower, turn_start, turn_busy, turn_on, turn_on_done, turn_done}
 use Rattle.fair.proofs.+turn_active.Goals as goal
 
 pub returns-then-class-eq0 : goal.returns-then-class-eq0

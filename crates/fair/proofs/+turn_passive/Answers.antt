@@ -1,11 +1,11 @@
 -- The proof of the cycle of calls {turn_passive}: each call tells the parent, and goes on where that has turned passive. The measure is the class's number.
 -- Assumes nothing.
-use Prim.Native.Nat.{ℕ, ◌-◌, ◌<◌}
+use Prim.Native.Nat.{ℕ, ◌-◌}
 use native.Mathlib.Omega.{arith}
 use native.Mathlib.Nat.{lt_trans}
 use mathlib.Core.Path.{ap}
 use Rattle.rules.specs.declared.Rule.TheVariants.{Fair}
-use Rattle.fair.proofs.RestingSteps.{some_of, passing_narrow, passing_falls, one_less, passing_step, passed_step, passed_halt, passed_root}
+use Rattle.fair.proofs.RestingSteps.{some_of, passing_narrow, passing_falls, one_less, passing_step, passed_step, passed_halt}
 use Rattle.fair.proofs.+turn_passive.Goals as goal
 
 pub get-parent-requires : goal.get-parent-requires

@@ -2,13 +2,6 @@
 -- Assumes nothing.
 use Rattle.curve.proofs.Laws.Limits.{straight_rising}
 use borrow.Author.Rules.{rules}
-use Rattle.fair.proofs.bring_up.Reads as reads
-use Rattle.fair.proofs.bring_up.Lts as lts
-use Rattle.curve.proofs.pieces.arrival.Reads as arrival-reads
-use Rattle.fair.proofs.fair_piece.Reads as fair-piece-reads
-use Rattle.fair.proofs.share_of.Reads as share-of-reads
-use Rattle.state.proofs.table.get.Reads as get-reads
-use Rattle.state.proofs.table.put.Reads as put_reads
 use Rattle.fair.proofs.bring_up.Goals as goal
 
 pub arrival-time-requires : goal.arrival-time-requires

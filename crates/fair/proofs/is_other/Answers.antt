@@ -4,12 +4,8 @@ use Prim.Native.Nat.{ℕ}
 use mathlib.Core.Path.{refl, ap}
 use mathlib.Core.Bool.{not}
 use lib.Dec.{eqb}
-use borrow.Author.Rules.{rules}
 use borrow.Author.Tests.{eq-eqb, ne_eqb}
 use Rattle.fair.specs.StepsWaking.{other_in}
-use Rattle.fair.proofs.is_other.Reads as reads
-use Rattle.fair.proofs.is_other.Lts as lts
-use Rattle.state.proofs.table.get.Reads as get-reads
 use Rattle.fair.proofs.is_other.Goals as goal
 
 pub returns-then-child-class : goal.returns-then-child-class

@@ -1,10 +1,6 @@
 -- `fair::mark_by_children` meets its contract: what was gathered of the children gives it.
 -- Assumes nothing.
-use borrow.Author.Rules.{rules}
 use Rattle.fair.proofs.WakingChildren.{met_sum, met_some, met_none}
-use Rattle.fair.proofs.mark_by_children.Reads as reads
-use Rattle.fair.proofs.mark_by_children.Lts as lts
-use Rattle.fair.proofs.spread_of.Reads as spread-of-reads
 use Rattle.fair.proofs.mark_by_children.Goals as goal
 
 pub overflow_add-result : goal.overflow_add-result

@@ -1,17 +1,11 @@
 -- `fair::spread_of` meets its contract: the chain of siblings meets every child, in increasing order.
 -- Assumes nothing.
-use Prim.Native.Nat.{ℕ, ◌-◌, ◌%◌}
+use Prim.Native.Nat.{ℕ}
 use mathlib.Core.Path.{refl, ◌∙◌, ap₂}
 use mathlib.Core.Bool.{Bool}
 use native.Mathlib.Omega.{arith}
-use Rattle.tree.specs.declared.Tree.{Tree}
-use Rattle.fair.specs.StepsWaking.{Family, spread_with}
-use Rattle.fair.proofs.WakingChildren.{Gathered, gathered_first, gathered_more, gathered_all, walk_narrow, walk_falls}
-use Rattle.fair.proofs.spread_of.Reads as reads
-use Rattle.fair.proofs.spread_of.Lts as lts
-use Rattle.fair.proofs.spread_with.Reads as spread-with-reads
-use Rattle.state.specs.Table.{CLASSES}
-use Rattle.state.proofs.table.get.Reads as get-reads
+use Rattle.fair.specs.StepsWaking.{spread_with}
+use Rattle.fair.proofs.WakingChildren.{gathered_first, gathered_more, gathered_all, walk_narrow, walk_falls}
 use Rattle.fair.proofs.spread_of.Goals as goal
 
 pub loop-child-init : goal.loop-child-init

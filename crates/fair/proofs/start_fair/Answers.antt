@@ -1,19 +1,7 @@
 -- `fair::start_fair` meets its contract: the mark and the kept piece are the definitions', and are stored before the virtual time is worked out.
 -- Assumes nothing.
-use mathlib.Core.Path.{◌≡◌, refl, ◌∙◌}
-use native.Mathlib.Omega.{arith}
-use borrow.Author.Rules.{rules}
+use mathlib.Core.Path.{◌∙◌}
 use Rattle.fair.proofs.WakingCells.{start_raises, start_done}
-use Rattle.fair.proofs.start_fair.Reads as reads
-use Rattle.fair.proofs.start_fair.Lts as lts
-use Rattle.curve.proofs.pieces.lower.Reads as lower-reads
-use Rattle.fair.proofs.bring_up.Reads as bring-up-reads
-use Rattle.fair.proofs.fair_piece.Reads as fair-piece-reads
-use Rattle.fair.proofs.larger.Reads as larger-reads
-use Rattle.fair.proofs.mark_by_children.Reads as mark-by-children-reads
-use Rattle.fair.proofs.share_of.Reads as share-of-reads
-use Rattle.state.proofs.table.get.Reads as get-reads
-use Rattle.state.proofs.table.put.Reads as put_reads
 use Rattle.fair.proofs.start_fair.Goals as goal
 
 pub bring_up-requires : goal.bring_up-requires

@@ -2,10 +2,6 @@
 -- Assumes nothing.
 use native.Mathlib.Omega.{arith}
 use Rattle.fair.proofs.WakingTurn.{wake_narrow, wake_turn, wake_done}
-use Rattle.fair.proofs.wake.Reads as reads
-use Rattle.fair.proofs.wake.Lts as lts
-use Rattle.fair.proofs.turn_active.Reads as turn-active-reads
-use Rattle.state.proofs.table.put.Reads as put_reads
 use Rattle.fair.proofs.wake.Goals as goal
 
 pub put-requires : goal.put-requires

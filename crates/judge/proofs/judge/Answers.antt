@@ -1,6 +1,5 @@
 -- `judge::judge` meets its contract: the start's refusal, or the judgement of the records from the history that it starts.
 -- Assumes nothing.
-use mathlib.Core.Path.{◌≡◌, sym, subst}
 use borrow.Author.Rules.{rules}
 use Rattle.judge.proofs.Judging.{judged_refused, judged_replayed}
 use Rattle.judge.proofs.judge.Goals as goal

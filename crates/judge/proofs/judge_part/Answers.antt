@@ -1,14 +1,8 @@
 -- `judge::judge_part` meets its contract: what is left to judge decides, from the history that the arrays show.
 -- Assumes nothing.
-use Prim.Native.Nat.{◌*◌, ◌-◌, ◌≤◌}
-use mathlib.Core.Path.{◌≡◌}
 use native.Mathlib.Omega.{arith}
-use lib.ListN.{length}
-use borrow.Author.Rules.{rules}
-use Rattle.state.specs.State.{Reached}
-use Rattle.state.specs.Heads.{EveryHistory}
 use Rattle.judge.proofs.Replaying.{not_holds}
-use Rattle.judge.proofs.Judging.{Onward, onward_first, onward_next, onward_wrong, onward_short, onward_ended}
+use Rattle.judge.proofs.Judging.{onward_next, onward_wrong, onward_short, onward_ended}
 use Rattle.judge.proofs.judge_part.Goals as goal
 
 pub returns-in_default : goal.returns-in_default

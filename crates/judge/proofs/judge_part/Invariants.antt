@@ -1,12 +1,9 @@
 use Prim.Native.Nat.{◌*◌, ◌-◌, ◌≤◌}
 use mathlib.Core.Path.{◌≡◌}
-use native.Mathlib.Omega.{arith}
 use lib.ListN.{length}
-use borrow.Author.Rules.{rules}
 use Rattle.state.specs.State.{Reached}
 use Rattle.state.specs.Heads.{EveryHistory}
-use Rattle.judge.proofs.Replaying.{not_holds}
-use Rattle.judge.proofs.Judging.{Onward, onward_first, onward_next, onward_wrong, onward_short, onward_ended}
+use Rattle.judge.proofs.Judging.{Onward}
 use Rattle.judge.proofs.judge_part.Given as goal
 
 abbrev pub invariant-loop-at : goal.invariant-loop-at

@@ -1,8 +1,6 @@
 -- `judge::replay` meets its contract: each record is replayed by its call, and found to be what the answer says.
 -- Assumes nothing.
-use mathlib.Core.Path.{refl, sym}
-use Rattle.judge.proofs.Replaying.{arrival_replayed, departure_replayed, empty_replayed, malformed_replayed}
-use borrow.Author.Rules.{rules}
+use Rattle.judge.proofs.Replaying.{departure_replayed, empty_replayed}
 use Rattle.judge.proofs.replay.Goals as goal
 
 pub returns-in-Departed : goal.returns-in-Departed

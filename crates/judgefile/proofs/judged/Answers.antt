@@ -1,7 +1,6 @@
 -- `judgefile::judged` meets its contract: the refusal of the file, or the judgement over its tree.
 -- Assumes nothing.
 use Rattle.judgefile.proofs.Judging.{file_refused, file_judged}
-use borrow.Author.Rules.{rules}
 use Rattle.judgefile.proofs.judged.Goals as goal
 
 pub returns-in-Refused : goal.returns-in-Refused

@@ -1,10 +1,7 @@
 -- `judgetext::judge_text` meets its contract: what is left of the text decides, from the history that the arrays show.
 -- Assumes nothing.
-use Rattle.std.proofs.Common.{◌-◌, ◌≤◌, length, sym, ◌∙◌, arith, rules}
-use borrow.Author.Tests.{not-true, not-false}
-use Rattle.state.specs.State.{Reached}
-use Rattle.state.specs.Heads.{EveryHistory}
-use Rattle.judgetext.proofs.Onward.{Onward, onward_first, onward_next, onward_stopped, onward_ended}
+use Rattle.std.proofs.Common.{sym, ◌∙◌, arith}
+use Rattle.judgetext.proofs.Onward.{onward_next, onward_stopped, onward_ended}
 use Rattle.judgetext.proofs.judge_text.Goals as goal
 
 pub returns-then-not-is_right : goal.returns-then-not-is_right

@@ -1,8 +1,7 @@
-use Rattle.std.proofs.Common.{◌-◌, ◌≤◌, length, sym, ◌∙◌, arith, rules}
-use borrow.Author.Tests.{not-true, not-false}
+use Rattle.std.proofs.Common.{◌-◌, ◌≤◌, length}
 use Rattle.state.specs.State.{Reached}
 use Rattle.state.specs.Heads.{EveryHistory}
-use Rattle.judgetext.proofs.Onward.{Onward, onward_first, onward_next, onward_stopped, onward_ended}
+use Rattle.judgetext.proofs.Onward.{Onward}
 use Rattle.judgetext.proofs.judge_text.Given as goal
 
 abbrev pub invariant-loop-i : goal.invariant-loop-i

@@ -1,6 +1,6 @@
 -- `logtext::lengthen` meets its contract: a number past 32 bits stays past them.
 -- Assumes nothing.
-use Rattle.std.proofs.Common.{◌∙◌, arith, rules}
+use Rattle.std.proofs.Common.{◌∙◌, arith}
 use Rattle.logtext.specs.Scans.{longer}
 use Rattle.logtext.proofs.lengthen.Goals as goal
 

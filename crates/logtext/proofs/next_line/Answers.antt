@@ -1,6 +1,6 @@
 -- `logtext::next_line` meets its contract: the next line, and its start.
 -- Assumes nothing.
-use Rattle.std.proofs.Common.{ap, rules}
+use Rattle.std.proofs.Common.{ap}
 use Rattle.logtext.specs.Scans.{next_line, between}
 use Rattle.logtext.proofs.next_line.Goals as goal
 

@@ -1,6 +1,6 @@
 -- `logtext::see` meets its contract: each arm is a case of the definition.
 -- Assumes nothing.
-use Rattle.std.proofs.Common.{ap, ◌∙◌, rules}
+use Rattle.std.proofs.Common.{ap, ◌∙◌}
 use Rattle.logtext.specs.Scans.{shown_between, shown_in, seen_at}
 use Rattle.logtext.proofs.see.Goals as goal
 

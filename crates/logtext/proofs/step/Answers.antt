@@ -1,6 +1,6 @@
 -- `logtext::step` meets its contract: each arm is a case of the definition.
 -- Assumes nothing.
-use Rattle.std.proofs.Common.{ap, ◌∙◌, rules}
+use Rattle.std.proofs.Common.{ap, ◌∙◌}
 use Rattle.logtext.specs.Scans.{onward, stepped}
 use Rattle.logtext.proofs.step.Goals as goal
 

@@ -1,6 +1,6 @@
 -- `logtext::told` meets its contract: each test is one of the definition's.
 -- Assumes nothing.
-use Rattle.std.proofs.Common.{sym, ◌∙◌, rules, eq-eqb, ne_eqb, le-leb}
+use Rattle.std.proofs.Common.{sym, ◌∙◌, eq-eqb, ne_eqb, le-leb}
 use borrow.Author.Tests.{lt-leb}
 use Rattle.logtext.specs.Scans.{kind_of}
 use Rattle.logtext.proofs.told.Goals as goal

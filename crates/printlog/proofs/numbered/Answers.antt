@@ -2,7 +2,6 @@
 -- Assumes nothing.
 use native.Mathlib.Omega.{arith}
 use Rattle.print.proofs.Stores.{then}
-use borrow.Author.Rules.{rules}
 use Rattle.printlog.proofs.numbered.Goals as goal
 
 pub returns : goal.returns

@@ -3,7 +3,6 @@
 use Rattle.print.specs.Lines.{further}
 use Rattle.printlog.specs.Lines.{log_line_of}
 use Rattle.print.proofs.Stores.{then}
-use borrow.Author.Rules.{rules}
 use Rattle.printlog.proofs.numbers.Goals as goal
 
 pub returns : goal.returns

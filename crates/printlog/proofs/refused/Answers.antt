@@ -9,7 +9,6 @@ use Rattle.print.specs.Lines.{further}
 use Rattle.printlog.specs.Spelled.{record_word}
 use Rattle.printlog.specs.Lines.{with_colon, log_line_of}
 use Rattle.print.proofs.Stores.{then, same_as}
-use borrow.Author.Rules.{rules}
 use Rattle.printlog.proofs.refused.Goals as goal
 
 pub returns : goal.returns

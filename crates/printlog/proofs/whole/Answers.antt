@@ -4,7 +4,6 @@ use mathlib.Core.Path.{ap}
 use Rattle.print.specs.Lines.{further, line_of}
 use Rattle.printlog.specs.Lines.{log_line_of}
 use Rattle.print.proofs.Stores.{then, same_as}
-use borrow.Author.Rules.{rules}
 use Rattle.printlog.proofs.whole.Goals as goal
 
 pub returns-in-Accepted : goal.returns-in-Accepted

@@ -1,17 +1,14 @@
 -- `printwhy::all` meets its contract: the loop's invariant: the lines before `i` are printed, from the front.
 -- The measure is what is left of the lines.
 -- Assumes nothing.
-use Prim.Native.Nat.{ℕ, ◌+◌, ◌*◌, ◌-◌, ◌≤◌}
-use mathlib.Core.Path.{◌≡◌, refl, sym, ap}
+use Prim.Native.Nat.{ℕ, ◌+◌, ◌*◌}
+use mathlib.Core.Path.{◌≡◌, refl}
 use mathlib.Core.List.{List, ◌++◌}
 use native.Mathlib.Omega.{arith}
 use native.Mathlib.Numerals.{add-one}
-use lib.ListN.{length}
-use Rattle.print.specs.Promises.{Printed}
 use Rattle.print.proofs.Stores.{then, same_as}
 use Rattle.reason.specs.Reasons.{numbers}
 use Rattle.printwhy.specs.Lines.{line_text_at, sheet_text}
-use Rattle.printwhy.specs.Promises.{why_line_room}
 use Rattle.printwhy.proofs.all.Goals as goal
 
 -- the text of a line more

@@ -1,13 +1,8 @@
-use Prim.Native.Nat.{ℕ, ◌+◌, ◌*◌, ◌-◌, ◌≤◌}
-use mathlib.Core.Path.{◌≡◌, refl, sym, ap}
-use mathlib.Core.List.{List, ◌++◌}
-use native.Mathlib.Omega.{arith}
-use native.Mathlib.Numerals.{add-one}
+use Prim.Native.Nat.{◌*◌, ◌-◌, ◌≤◌}
+use mathlib.Core.Path.{◌≡◌}
 use lib.ListN.{length}
 use Rattle.print.specs.Promises.{Printed}
-use Rattle.print.proofs.Stores.{then, same_as}
-use Rattle.reason.specs.Reasons.{numbers}
-use Rattle.printwhy.specs.Lines.{line_text_at, sheet_text}
+use Rattle.printwhy.specs.Lines.{sheet_text}
 use Rattle.printwhy.specs.Promises.{why_line_room}
 use Rattle.printwhy.proofs.all.Given as goal
 

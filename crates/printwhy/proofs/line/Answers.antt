@@ -10,7 +10,6 @@ use Rattle.print.specs.Lines.{further}
 use Rattle.print.proofs.Stores.{then, same_as}
 use Rattle.printwhy.specs.Spelled.{leaf_word}
 use Rattle.printwhy.specs.Lines.{why_words_of, why_line_of}
-use borrow.Author.Rules.{rules}
 use Rattle.printwhy.proofs.line.Goals as goal
 
 pub returns : goal.returns

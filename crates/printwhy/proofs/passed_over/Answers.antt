@@ -3,7 +3,6 @@
 use native.Mathlib.Omega.{arith}
 use Rattle.print.specs.Lines.{further}
 use Rattle.print.proofs.Stores.{then}
-use borrow.Author.Rules.{rules}
 use Rattle.printwhy.proofs.passed_over.Goals as goal
 
 pub returns : goal.returns

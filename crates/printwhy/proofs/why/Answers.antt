@@ -8,7 +8,6 @@ use Rattle.print.specs.Lines.{further}
 use Rattle.print.proofs.Stores.{then, same_as}
 use Rattle.reason.specs.declared.Reason.{Reason}
 use Rattle.printwhy.specs.Lines.{why_words_of}
-use borrow.Author.Rules.{rules}
 use Rattle.printwhy.proofs.why.Goals as goal
 
 -- the bytes of a reason

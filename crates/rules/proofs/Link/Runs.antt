@@ -1,6 +1,6 @@
 -- The runs: their premises are computed, and the late packet's run bounds the guarantee's number from below.
 -- Assumes nothing.
-use Rattle.std.proofs.Common.{◌≡◌, ℕ, zero, suc, ◌+◌, ◌-◌, ◌<◌, ◌≤◌, true, List, [], ◌∷◌, drop, refl, ⊎_elim, arith}
+use Rattle.std.proofs.Common.{◌≡◌, ℕ, zero, suc, ◌+◌, ◌<◌, ◌≤◌, true, List, [], ◌∷◌, drop, refl, ⊎_elim, arith}
 use Rattle.curve.specs.Curves.{amount}
 use Rattle.curve.specs.Pieces.{standing}
 use Rattle.curve.specs.Fit.{sum_of}

@@ -5,7 +5,6 @@ use mathlib.Core.Path.{◌≡◌, ◌∙◌, ap}
 use native.Mathlib.Omega.{arith}
 use lib.ListN.{length, set}
 use mathlib.Core.List.{List}
-use borrow.Author.Rules.{rules}
 use Rattle.rules.proofs.Allowed.{allowed_admitted}
 use Rattle.rules.specs.Limits.{weigh}
 use Rattle.rules.specs.Calls.{History, came}

@@ -1,6 +1,5 @@
 -- `sched::arrive` meets its contract: 14 and 15, then what the leaf answers; the clock moves exactly where the packet was accepted. Assumes nothing.
 use mathlib.Core.Path.{sym, ◌∙◌}
-use borrow.Author.Rules.{rules}
 use Rattle.state.proofs.Shown.{clock_shown, stamp_shown}
 use Rattle.sched.proofs.Arriving.{promised, tick_refuses, moved_right, unmoved_right}
 use Rattle.sched.proofs.arrive.Goals as goal

@@ -12,7 +12,6 @@ use Rattle.state.specs.State.{Shows}
 use Rattle.sched.specs.Promises.{DepartRight}
 use Rattle.state.proofs.Shown.{clock_shown, stamp_shown, tick_passes, tick_timely, shown_told}
 use Rattle.sched.proofs.DepartingCall.{refused_right, none_right, leaves_right, departs_reached}
-use borrow.Author.Rules.{rules}
 use Rattle.sched.proofs.depart.Goals as goal
 use Rattle.sched.proofs.depart.Goals.{In-At, In-Leaf}
 

@@ -1,7 +1,6 @@
 -- `sched::receive` meets its contract: the checks 11, 12, 13 and 16, and an accepted packet in its queue.
 -- Assumes nothing.
 use mathlib.Core.Path.{◌≡◌, refl, subst}
-use borrow.Author.Rules.{rules}
 use Rattle.rules.specs.Calls.{History, came}
 use Rattle.rules.specs.Lawful.{Lawful, Allowed}
 use Rattle.rules.specs.Answers.{passed, outcome}
@@ -15,6 +14,7 @@ use Rattle.sched.proofs.receive.Goals.{In-Open, Start}
 module _ (c : In-Open) (h : History) (law : Lawful h) (s : Shows c.args.words.now c.args.lengths.now h) where
   abbrev start : Start
   start = c.before.before
+
   opened : outcome (leaf_checks h.tree h.calls start.args.class start.args.length) ≡ passed
   opened =
       subst (AdmissionRight h start.args.class start.args.length) c.in-Open.is

@@ -6,7 +6,6 @@ use Rattle.tree.proofs.Verdicts.{judged_right, right_judged}
 use Rattle.state.specs.Planting.{Headed}
 use Rattle.state.proofs.Fresh.{stamped, counted, headed_only, planted_linkable, fresh_shows, fresh_none}
 use Rattle.sched.proofs.Starting.{started_both}
-use borrow.Author.Rules.{rules}
 use Rattle.sched.proofs.start.Goals as goal
 use Rattle.sched.proofs.start.Goals.{After-put_header, In-Right}
 

@@ -1,6 +1,6 @@
 -- `sched::take` meets its contract: each step leaves what the next asks, for every history that the arrays show.
 -- Assumes nothing.
-use Prim.Native.Nat.{ℕ, ◌+◌, ◌*◌, ◌%◌, ◌<◌}
+use Prim.Native.Nat.{ℕ, ◌+◌, ◌<◌}
 use mathlib.Core.Path.{◌≡◌, refl, sym, ◌∙◌, ap, subst}
 use mathlib.Core.List.{List}
 use native.Mathlib.Omega.{arith}
@@ -18,8 +18,7 @@ use Rattle.sched.specs.StepsArriving.{ShowsButClock}
 use Rattle.state.specs.Steps.{counted}
 use Rattle.sched.specs.StepsDeparting.{BeforeSettle}
 use Rattle.state.proofs.Cells.{at_with_column}
-use Rattle.sched.proofs.DepartingTake.{take_class, take_below, take_length, take_short, take_number, take_bytes, take_times, before_raise, before_settle, take_shows}
-use borrow.Author.Rules.{rules}
+use Rattle.sched.proofs.DepartingTake.{take_class, take_below, take_length, take_number, take_bytes, take_times, before_raise, before_settle, take_shows}
 use Rattle.sched.proofs.take.Goals as goal
 use Rattle.sched.proofs.take.Goals.{After-count_bytes, After-length_of-length, After-put_length, After-raise, Start}
 

@@ -2,7 +2,6 @@
 -- Assumes nothing.
 use mathlib.Core.List.{List}
 use mathlib.Core.Path.{◌≡◌, subst}
-use borrow.Author.Rules.{rules}
 use Rattle.curve.specs.Answers.{Exactly}
 use Rattle.curve.specs.Fit.{CurvesFit}
 use Rattle.curve.specs.declared.Curve.{Curve}

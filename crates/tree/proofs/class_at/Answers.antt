@@ -3,8 +3,7 @@
 use Prim.Native.Nat.{◌≤◌}
 use mathlib.Core.Path.{◌≡◌, refl, sym, ◌∙◌}
 use native.Mathlib.Omega.{arith}
-use borrow.Author.Rules.{rules}
-use lib.ListN.{length, length-map, get_or-eq_default}
+use lib.ListN.{length, get_or-eq_default}
 use Rattle.tree.specs.Trees.{most_classes, class_at, no_class}
 use Rattle.tree.proofs.class_at.Goals as goal
 

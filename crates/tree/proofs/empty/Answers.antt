@@ -1,7 +1,6 @@
 -- `tree::empty` meets its contract: the array repeats what `no_class` gives.
 -- Assumes nothing.
 use mathlib.Core.Path.{ap}
-use borrow.Author.Rules.{rules}
 use lib.ListN.{replicate}
 use Rattle.tree.specs.Trees.{most_classes, empty_tree}
 use Rattle.tree.specs.declared.Class.{Class}

@@ -5,7 +5,6 @@ use Rattle.wording.specs.Words.{after}
 use Rattle.wording.specs.Numbers.{number_of}
 use Rattle.print.specs.Spelled.{parent_word, share_word}
 use Rattle.treetext.specs.Entries.{labelled, curve_in, class_in}
-use borrow.Author.Rules.{rules}
 use Rattle.treetext.proofs.class_in.Goals as goal
 
 pub returns : goal.returns

@@ -3,7 +3,6 @@
 use mathlib.Core.Path.{◌≡◌, sym, ◌∙◌}
 use Rattle.treetext.specs.Entries.{form_of, worse, class_of}
 use Rattle.treetext.specs.declared.Form.TheVariants.{Right, TooLarge, Wrong}
-use borrow.Author.Rules.{rules}
 use Rattle.treetext.proofs.class_of.Goals as goal
 
 pub returns-in-Right : goal.returns-in-Right

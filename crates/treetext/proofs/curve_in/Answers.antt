@@ -5,7 +5,6 @@ use mathlib.Core.Bool.{true, false}
 use Rattle.wording.specs.Words.{first, same}
 use Rattle.print.specs.Spelled.{none_word, straight_word, front_loaded_word, delayed_word}
 use Rattle.treetext.specs.Entries.{none_in, straight_in, front_loaded_in, delayed_in, curve_in}
-use borrow.Author.Rules.{rules}
 use Rattle.treetext.proofs.curve_in.Goals as goal
 
 pub returns-then-is : goal.returns-then-is

@@ -1,10 +1,8 @@
 -- `treetext::delayed_in` meets its contract: the numbers are the definition's.
 -- Assumes nothing.
 use mathlib.Core.Path.{ap, ◌∙◌}
-use Rattle.wording.specs.Words.{first, after}
 use Rattle.wording.specs.Numbers.{number_of, only_in}
 use Rattle.treetext.specs.Entries.{delayed_in}
-use borrow.Author.Rules.{rules}
 use Rattle.treetext.proofs.delayed_in.Goals as goal
 
 pub returns : goal.returns

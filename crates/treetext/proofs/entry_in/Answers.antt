@@ -6,7 +6,6 @@ use Rattle.wording.specs.Words.{same}
 use Rattle.print.specs.Spelled.{tree_word, class_word}
 use Rattle.treetext.specs.Entries.{head_in, class_in}
 use Rattle.treetext.proofs.Named.{entry_none, entry_head, entry_class, entry_other}
-use borrow.Author.Rules.{rules}
 use Rattle.treetext.proofs.entry_in.Goals as goal
 
 pub returns-then-name-eq0 : goal.returns-then-name-eq0

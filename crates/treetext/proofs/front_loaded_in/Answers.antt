@@ -4,7 +4,6 @@ use mathlib.Core.Path.{ap, ◌∙◌}
 use Rattle.wording.specs.Words.{first, after}
 use Rattle.wording.specs.Numbers.{number_of, only_in}
 use Rattle.treetext.specs.Entries.{front_loaded_in}
-use borrow.Author.Rules.{rules}
 use Rattle.treetext.proofs.front_loaded_in.Goals as goal
 
 pub returns : goal.returns

@@ -1,7 +1,6 @@
 -- `treetext::is_done` meets its contract: each arm is a case of the definition.
 -- Assumes nothing.
 use Rattle.treetext.specs.Texts.{is_done}
-use borrow.Author.Rules.{rules}
 use Rattle.treetext.proofs.is_done.Goals as goal
 
 pub returns-in-Nowhere : goal.returns-in-Nowhere

@@ -2,11 +2,9 @@
 -- Assumes nothing.
 use mathlib.Core.Path.{◌≡◌, sym, ap, ◌∙◌}
 use mathlib.Core.Bool.{true, false}
-use borrow.Author.Tests.{not-true, not-false}
 use Rattle.wording.specs.Words.{first, same}
 use Rattle.wording.specs.Numbers.{number_of}
 use Rattle.treetext.specs.Entries.{labelled}
-use borrow.Author.Rules.{rules}
 use Rattle.treetext.proofs.labelled.Goals as goal
 
 pub returns-then-not-is : goal.returns-then-not-is

@@ -5,7 +5,6 @@ use lib.ListN.{length}
 use Rattle.wording.specs.Words.{first}
 use Rattle.treetext.specs.Entries.{none_in}
 use Rattle.treetext.proofs.Named.{end_some, end_none}
-use borrow.Author.Rules.{rules}
 use Rattle.treetext.proofs.none_in.Goals as goal
 
 pub returns-then-word-ne0 : goal.returns-then-word-ne0

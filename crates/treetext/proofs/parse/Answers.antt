@@ -2,7 +2,6 @@
 -- Assumes nothing.
 use mathlib.Core.Path.{ap, ◌∙◌}
 use Rattle.treetext.specs.Entries.{entry_of, entry_in}
-use borrow.Author.Rules.{rules}
 use Rattle.treetext.proofs.parse.Goals as goal
 
 pub returns : goal.returns

@@ -1,11 +1,9 @@
 -- `treetext::read` meets its contract: the draft so far, taken on by the lines that are left, is that of the whole text.
 -- Assumes nothing.
-use Prim.Native.Nat.{ℕ, ◌+◌, ◌-◌, ◌≤◌}
+use Prim.Native.Nat.{◌+◌, ◌-◌}
 use native.Mathlib.Omega.{arith}
-use mathlib.Core.Path.{◌≡◌, sym, ap, ◌∙◌}
-use mathlib.Core.List.{List}
-use lib.ListN.{length, take, drop}
-use borrow.Author.Rules.{rules}
+use mathlib.Core.Path.{sym, ap, ◌∙◌}
+use lib.ListN.{take, drop}
 use Rattle.treetext.specs.declared.Draft.{Draft}
 use Rattle.treetext.specs.Texts.{lines_of, with_lines, tree_in}
 use Rattle.treetext.proofs.TextLines.{lines_on_lem, lines_end, line_more}

@@ -1,12 +1,9 @@
-use Prim.Native.Nat.{ℕ, ◌+◌, ◌-◌, ◌≤◌}
-use native.Mathlib.Omega.{arith}
-use mathlib.Core.Path.{◌≡◌, sym, ap, ◌∙◌}
+use Prim.Native.Nat.{ℕ, ◌-◌, ◌≤◌}
+use mathlib.Core.Path.{◌≡◌}
 use mathlib.Core.List.{List}
-use lib.ListN.{length, take, drop}
-use borrow.Author.Rules.{rules}
+use lib.ListN.{length, drop}
 use Rattle.treetext.specs.declared.Draft.{Draft}
 use Rattle.treetext.specs.Texts.{lines_of, with_lines, tree_in}
-use Rattle.treetext.proofs.TextLines.{lines_on_lem, lines_end, line_more}
 use Rattle.treetext.proofs.read.Given as goal
 
 -- where the walk stands

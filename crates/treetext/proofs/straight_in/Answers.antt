@@ -1,7 +1,6 @@
 -- `treetext::straight_in` meets its contract: the number is the definition's.
 -- Assumes nothing.
 use Rattle.treetext.specs.Entries.{straight_in}
-use borrow.Author.Rules.{rules}
 use Rattle.treetext.proofs.straight_in.Goals as goal
 
 pub returns : goal.returns

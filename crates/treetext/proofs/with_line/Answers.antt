@@ -4,7 +4,6 @@ use mathlib.Core.Path.{sym, ap, ◌∙◌}
 use native.Mathlib.Omega.{arith}
 use Rattle.treetext.specs.Texts.{with_entry, with_line}
 use Rattle.treetext.proofs.Named.{not_done}
-use borrow.Author.Rules.{rules}
 use Rattle.treetext.proofs.with_line.Goals as goal
 
 pub returns-then-is_done : goal.returns-then-is_done

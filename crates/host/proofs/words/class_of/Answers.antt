@@ -1,7 +1,6 @@
 -- The class whose words stand from a place on, by the test of its kind. Assumes nothing.
 use mathlib.Core.Path.{◌∙◌, sym}
 use native.Mathlib.Omega.{arith}
-use borrow.Author.Rules.{rules}
 use Rattle.host.proofs.Saying.{class_unknown, class_known}
 use Rattle.host.proofs.words.class_of.Goals as goal
 

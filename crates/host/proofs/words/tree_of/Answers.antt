@@ -1,14 +1,11 @@
 -- The classes are read one after another: those below the next one are what the words say, and no class stands above them.
 -- Assumes nothing.
-use Prim.Native.Nat.{ℕ, ◌-◌, ◌≤◌}
-use mathlib.Core.Path.{◌≡◌, refl, ◌∙◌, ap}
-use mathlib.Core.List.{List}
+use mathlib.Core.Path.{◌≡◌, ◌∙◌, ap}
 use native.Mathlib.Omega.{arith}
-use borrow.Author.Rules.{rules}
 use Rattle.tree.specs.declared.Tree.{Tree}
 use Rattle.tree.specs.Trees.{empty_tree}
 use Rattle.state.specs.Table.{CLASSES}
-use Rattle.host.specs.Words.{word_at, first_classes}
+use Rattle.host.specs.Words.{first_classes}
 use Rattle.host.proofs.Saying.{filled, filled_next, tree_is}
 use Rattle.host.proofs.words.tree_of.Goals as goal
 

@@ -1,13 +1,10 @@
 use Prim.Native.Nat.{ℕ, ◌-◌, ◌≤◌}
-use mathlib.Core.Path.{◌≡◌, refl, ◌∙◌, ap}
+use mathlib.Core.Path.{◌≡◌}
 use mathlib.Core.List.{List}
-use native.Mathlib.Omega.{arith}
-use borrow.Author.Rules.{rules}
 use Rattle.tree.specs.declared.Tree.{Tree}
-use Rattle.tree.specs.Trees.{empty_tree}
 use Rattle.state.specs.Table.{CLASSES}
-use Rattle.host.specs.Words.{word_at, first_classes}
-use Rattle.host.proofs.Saying.{filled, filled_next, tree_is}
+use Rattle.host.specs.Words.{word_at}
+use Rattle.host.proofs.Saying.{filled}
 use Rattle.host.proofs.words.tree_of.Given as goal
 
 pub record Filled (words : List ℕ) (tree : Tree) (i : ℕ) : Type 0 where

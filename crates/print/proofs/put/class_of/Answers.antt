@@ -1,6 +1,5 @@
 -- `print::put::class_of` meets its contract: the numbers of the class, and then its curve.
 -- Assumes nothing.
-use borrow.Author.Rules.{rules}
 use native.Mathlib.Omega.{arith}
 use Rattle.print.specs.Lines.{further, line_of}
 use Rattle.print.proofs.Stores.{then}

@@ -1,6 +1,5 @@
 -- `print::put::curve` meets its contract, by cases: the words are the curve's.
 -- Assumes nothing.
-use borrow.Author.Rules.{rules}
 use native.Mathlib.Omega.{arith}
 use Prim.Native.Nat.{ℕ}
 use mathlib.Core.Path.{ap}

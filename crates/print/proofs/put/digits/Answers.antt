@@ -1,10 +1,9 @@
 -- `print::put::digits` meets its contract: the loop's invariant: the digits from `i` on stand at their places, and those before are the last of the rest.
 -- The measure is `i`.
 -- Assumes nothing.
-use Prim.Native.Nat.{ℕ, ◌≤◌}
-use mathlib.Core.Path.{◌≡◌, refl, subst, ◌∙◌}
+use mathlib.Core.Path.{◌≡◌, refl, subst}
 use native.Mathlib.Omega.{arith}
-use lib.ListN.{length, length-set}
+use lib.ListN.{length-set}
 use Rattle.wording.specs.Decimal.{decimal}
 use Rattle.print.proofs.Places.{Left, left_first, left_next, left_last}
 use Rattle.print.proofs.put.digits.Goals as goal

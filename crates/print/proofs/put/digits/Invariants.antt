@@ -1,9 +1,8 @@
-use Prim.Native.Nat.{ℕ, ◌≤◌}
-use mathlib.Core.Path.{◌≡◌, refl, subst, ◌∙◌}
-use native.Mathlib.Omega.{arith}
-use lib.ListN.{length, length-set}
+use Prim.Native.Nat.{◌≤◌}
+use mathlib.Core.Path.{◌≡◌}
+use lib.ListN.{length}
 use Rattle.wording.specs.Decimal.{decimal}
-use Rattle.print.proofs.Places.{Left, left_first, left_next, left_last}
+use Rattle.print.proofs.Places.{Left}
 use Rattle.print.proofs.put.digits.Given as goal
 
 abbrev pub invariant-loop-i : goal.invariant-loop-i

@@ -1,6 +1,5 @@
 -- `print::put::fault` meets its contract, by cases: the words say what is wrong.
 -- Assumes nothing.
-use borrow.Author.Rules.{rules}
 use Prim.Native.Nat.{ℕ}
 use mathlib.Core.Path.{ap}
 use mathlib.Core.List.{List}

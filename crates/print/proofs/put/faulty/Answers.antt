@@ -1,6 +1,5 @@
 -- `print::put::faulty` meets its contract: the line's number, its colon, and then what is wrong.
 -- Assumes nothing.
-use borrow.Author.Rules.{rules}
 use Prim.Native.Nat.{ℕ}
 use mathlib.Core.Path.{ap}
 use mathlib.Core.List.{List, [], ◌∷◌, ◌++◌, append_assoc}

@@ -1,6 +1,5 @@
 -- `print::put::last` meets its contract: the word and the number, and then the line feed.
 -- Assumes nothing.
-use borrow.Author.Rules.{rules}
 use native.Mathlib.Omega.{arith}
 use mathlib.Core.Path.{sym}
 use mathlib.Core.List.{[], ◌∷◌, append_assoc}

@@ -1,6 +1,5 @@
 -- `print::put::leaves` meets its contract: the numbers of the packet, its rule, and then its times.
 -- Assumes nothing.
-use borrow.Author.Rules.{rules}
 use Rattle.print.specs.Lines.{further, line_of}
 use Rattle.print.proofs.Stores.{then}
 use Rattle.print.proofs.put.leaves.Goals as goal

@@ -1,6 +1,5 @@
 -- `print::put::named` meets its contract: the word, and then the number.
 -- Assumes nothing.
-use borrow.Author.Rules.{rules}
 use native.Mathlib.Omega.{arith}
 use Rattle.print.proofs.Stores.{then}
 use Rattle.print.proofs.put.named.Goals as goal

@@ -1,6 +1,5 @@
 -- `print::put::pair` meets its contract: one number, and then the other as the last of a line.
 -- Assumes nothing.
-use borrow.Author.Rules.{rules}
 use native.Mathlib.Omega.{arith}
 use Rattle.print.specs.Lines.{further}
 use Rattle.print.proofs.Stores.{then}

@@ -1,12 +1,8 @@
 -- `print::put::places` meets its contract: the loop's invariant: the digits counted and those of the rest, less the one that is in both, are the number's.
 -- The measure is the rest.
 -- Assumes nothing.
-use Prim.Native.Nat.{ℕ, ◌+◌, ◌≤◌, suc}
-use mathlib.Core.Path.{◌≡◌}
 use native.Mathlib.Omega.{arith}
-use lib.ListN.{length}
-use Rattle.wording.specs.Decimal.{decimal}
-use Rattle.wording.proofs.Decimals.{decimal_room, decimal_some, tenth_less}
+use Rattle.wording.proofs.Decimals.{decimal_room, decimal_some}
 use Rattle.print.proofs.Places.{places_more, places_one}
 use Rattle.print.proofs.put.places.Goals as goal
 

@@ -1,10 +1,7 @@
-use Prim.Native.Nat.{ℕ, ◌+◌, ◌≤◌, suc}
+use Prim.Native.Nat.{◌+◌, suc}
 use mathlib.Core.Path.{◌≡◌}
-use native.Mathlib.Omega.{arith}
 use lib.ListN.{length}
 use Rattle.wording.specs.Decimal.{decimal}
-use Rattle.wording.proofs.Decimals.{decimal_room, decimal_some, tenth_less}
-use Rattle.print.proofs.Places.{places_more, places_one}
 use Rattle.print.proofs.put.places.Given as goal
 
 abbrev pub invariant-loop-rest : goal.invariant-loop-rest

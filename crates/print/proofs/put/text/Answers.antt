@@ -1,12 +1,9 @@
 -- `print::put::text` meets its contract: the loop's invariant: the bytes of the word before `i` stand at their places.
 -- The measure is what is left of the word.
 -- Assumes nothing.
-use Prim.Native.Nat.{ℕ, ◌+◌, ◌≤◌, ◌-◌}
-use mathlib.Core.Path.{◌≡◌, refl, sym, ap, ◌∙◌}
 use native.Mathlib.Omega.{arith}
-use lib.ListN.{length, take, length-set}
-use lib.Seq.{sets, take_all}
-use Rattle.print.proofs.Stores.{store_next, ends_within}
+use lib.ListN.{length-set}
+use Rattle.print.proofs.Stores.{store_next}
 use Rattle.print.proofs.put.text.Goals as goal
 
 pub loop-i-preserved : goal.loop-i-preserved

@@ -1,6 +1,5 @@
 -- `print::put::times` meets its contract, by cases: the words are the times'.
 -- Assumes nothing.
-use borrow.Author.Rules.{rules}
 use native.Mathlib.Omega.{arith}
 use Prim.Native.Nat.{ℕ}
 use mathlib.Core.Path.{ap}

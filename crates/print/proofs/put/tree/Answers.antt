@@ -1,17 +1,14 @@
 -- `print::put::tree` meets its contract: the loop's invariant: the lines of the classes below `i` stand after the line `tree`.
 -- The measure is what is left of the count.
 -- Assumes nothing.
-use Prim.Native.Nat.{ℕ, ◌+◌, ◌*◌, ◌-◌, ◌≤◌}
+use Prim.Native.Nat.{ℕ}
 use mathlib.Core.Path.{◌≡◌, refl, sym, ap, ◌∙◌}
-use mathlib.Core.List.{List, ◌++◌}
+use mathlib.Core.List.{◌++◌}
 use native.Mathlib.Omega.{arith}
 use native.Mathlib.Nat.{add-zero}
-use lib.ListN.{length}
 use Rattle.tree.specs.declared.Class.{Class}
-use Rattle.tree.specs.Trees.{class_at}
 use Rattle.print.specs.declared.Answer.TheVariants.{TreeHead, ClassOf}
 use Rattle.print.specs.Lines.{further, line_of, class_lines, tree_text}
-use Rattle.print.specs.Promises.{Printed}
 use Rattle.print.proofs.Rows.{lines_next}
 use Rattle.print.proofs.Stores.{then, same_as}
 use Rattle.print.proofs.put.tree.Goals as goal

@@ -1,16 +1,8 @@
-use Prim.Native.Nat.{ℕ, ◌+◌, ◌*◌, ◌-◌, ◌≤◌}
-use mathlib.Core.Path.{◌≡◌, refl, sym, ap, ◌∙◌}
-use mathlib.Core.List.{List, ◌++◌}
-use native.Mathlib.Omega.{arith}
-use native.Mathlib.Nat.{add-zero}
+use Prim.Native.Nat.{◌+◌, ◌*◌, ◌-◌, ◌≤◌}
+use mathlib.Core.Path.{◌≡◌}
 use lib.ListN.{length}
-use Rattle.tree.specs.declared.Class.{Class}
-use Rattle.tree.specs.Trees.{class_at}
-use Rattle.print.specs.declared.Answer.TheVariants.{TreeHead, ClassOf}
-use Rattle.print.specs.Lines.{further, line_of, class_lines, tree_text}
+use Rattle.print.specs.Lines.{class_lines}
 use Rattle.print.specs.Promises.{Printed}
-use Rattle.print.proofs.Rows.{lines_next}
-use Rattle.print.proofs.Stores.{then, same_as}
 use Rattle.print.proofs.put.tree.Given as goal
 
 abbrev pub invariant-loop-i : goal.invariant-loop-i

@@ -1,7 +1,5 @@
 -- `print::put::tree_refused` meets its contract: the refusal's number, and then the class as the last of the line.
 -- Assumes nothing.
-use borrow.Author.Rules.{rules}
-use native.Mathlib.Omega.{arith}
 use Prim.Native.Nat.{ℕ}
 use mathlib.Core.Path.{ap, sym}
 use mathlib.Core.List.{[], ◌∷◌, ◌++◌}

@@ -1,8 +1,7 @@
 -- `sched::readers::head_times` meets its contract: the times are kept, and an eligible time is earlier than never.
 -- Assumes nothing.
 use native.Mathlib.Omega.{arith}
-use borrow.Author.Rules.{rules}
-use Rattle.sched.proofs.Asking.{no_times_there, asked_narrow, untimed_shown, timed_shown}
+use Rattle.sched.proofs.Asking.{no_times_there, asked_narrow, untimed_shown}
 use Rattle.sched.proofs.readers.head_times.Goals as goal
 
 pub returns-then-header-class : goal.returns-then-header-class

@@ -1,9 +1,7 @@
 -- `sched::readers::virtual_time` meets its contract: the virtual time is kept.
 -- Assumes nothing.
 use native.Mathlib.Omega.{arith}
-use mathlib.Core.Path.{◌∙◌}
-use borrow.Author.Rules.{rules}
-use Rattle.sched.proofs.Asking.{no_virtual_there, asked_narrow, virtual_shown}
+use Rattle.sched.proofs.Asking.{no_virtual_there, asked_narrow}
 use Rattle.sched.proofs.readers.virtual_time.Goals as goal
 
 pub returns-then-header-class : goal.returns-then-header-class

@@ -1,7 +1,6 @@
 -- `sched::readers::waiting` meets its contract: what came less what left.
 -- Assumes nothing.
 use native.Mathlib.Omega.{arith}
-use borrow.Author.Rules.{rules}
 use Rattle.sched.proofs.Asking.{none_waits_there, asked_narrow, left_below, waiting_shown}
 use Rattle.sched.proofs.readers.waiting.Goals as goal
 

@@ -2,7 +2,6 @@
 -- Assumes nothing.
 use mathlib.Core.Path.{sym, ◌∙◌}
 use Rattle.state.proofs.ChoosingDown.{root_descends, root_passive}
-use borrow.Author.Rules.{rules}
 use Rattle.state.proofs.choice.choose.Goals as goal
 
 pub descend-requires : goal.descend-requires

@@ -1,6 +1,6 @@
 -- `state::choice::lightest` meets its contract: of the children passed, the best is the first that is active.
 -- Assumes nothing.
-use Prim.Native.Nat.{◌+◌, ◌≤◌, ◌<◌, ◌-◌, ◌%◌}
+use Prim.Native.Nat.{◌≤◌, ◌<◌}
 use mathlib.Core.Path.{refl, sym, ◌∙◌}
 use mathlib.Core.Logic.{⊎_elim}
 use mathlib.Core.List.{List}
@@ -9,7 +9,7 @@ use Rattle.tree.specs.declared.Tree.{Tree}
 use Rattle.rules.specs.Calls.{Call}
 use Rattle.state.specs.Table.{CLASSES}
 use Rattle.state.specs.StepsChoosing.{Stepping}
-use Rattle.state.proofs.Choosing.{count_most, Walked, walked_is, walked_none, walked_below, walked_passive, walked_later, walked_first, walked_falls, lightest_right}
+use Rattle.state.proofs.Choosing.{count_most, walked_is, walked_none, walked_below, walked_passive, walked_later, walked_first, walked_falls, lightest_right}
 use Rattle.state.proofs.choice.lightest.Goals as goal
 use Rattle.state.proofs.choice.lightest.Goals.{In-loop-child, then-get-ne0+then-time-least, then-get-ne0+else-time-least, else-get-ne0}
 
@@ -71,7 +71,7 @@ loop-child-preserved c = λ tree cs s.
     let shows = (s.told.trees head.child (below turn.before.before.before tree cs s).1).sibling in
     let active = c.get.ensures in
     elim c.if-get-ne0.branch [
-      then-get-ne0+then-time-least w ↦
+      | then-get-ne0+then-time-least w ↦
           walked_is m tree i w.best-is (w.least-is ∙ w.get-time.ensures) c.get-child-in-loop-child.ensures
           (walked_first m tree i head.best head.least head.child w0 some shows (λ e. w.if-get-ne0.true (active ∙ e)) (omega (arith, w.get-time.ensures, w.if-time-least.true)))
       | then-get-ne0+else-time-least w ↦

@@ -1,13 +1,9 @@
-use Prim.Native.Nat.{◌+◌, ◌≤◌, ◌<◌, ◌-◌, ◌%◌}
-use mathlib.Core.Path.{refl, sym, ◌∙◌}
-use mathlib.Core.Logic.{⊎_elim}
+use Prim.Native.Nat.{◌+◌, ◌-◌, ◌%◌}
 use mathlib.Core.List.{List}
-use native.Mathlib.Omega.{arith}
 use Rattle.tree.specs.declared.Tree.{Tree}
 use Rattle.rules.specs.Calls.{Call}
-use Rattle.state.specs.Table.{CLASSES}
 use Rattle.state.specs.StepsChoosing.{Stepping}
-use Rattle.state.proofs.Choosing.{count_most, Walked, walked_is, walked_none, walked_below, walked_passive, walked_later, walked_first, walked_falls, lightest_right}
+use Rattle.state.proofs.Choosing.{Walked}
 use Rattle.state.proofs.choice.lightest.Given as goal
 
 abbrev pub invariant-loop-child : goal.invariant-loop-child

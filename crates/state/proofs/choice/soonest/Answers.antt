@@ -1,16 +1,12 @@
 -- `state::choice::soonest` meets its contract: of the classes passed, the best is the first that is eligible, if any is.
 -- Assumes nothing.
-use Prim.Native.Nat.{◌≤◌, ◌-◌}
-use mathlib.Core.Path.{◌≡◌, ◌∙◌}
+use mathlib.Core.Path.{◌≡◌}
 use mathlib.Core.List.{List}
-use mathlib.Core.Logic.{⊎_elim}
 use native.Mathlib.Omega.{arith}
-use borrow.Author.Rules.{rules}
 use Rattle.tree.specs.declared.Tree.{Tree}
 use Rattle.rules.specs.Calls.{Call}
-use Rattle.state.specs.Table.{CLASSES}
 use Rattle.state.specs.StepsChoosing.{Told}
-use Rattle.state.proofs.Choosing.{count_most, Looked, looked_none, looked_past, looked_new, soonest_some, soonest_none}
+use Rattle.state.proofs.Choosing.{count_most, looked_none, soonest_some, soonest_none}
 use Rattle.state.proofs.choice.soonest.Goals as goal
 use Rattle.state.proofs.choice.soonest.Goals.{After-loop-i}
 

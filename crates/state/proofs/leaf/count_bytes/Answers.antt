@@ -2,7 +2,6 @@
 -- Assumes nothing.
 use mathlib.Core.Path.{◌∙◌}
 use Rattle.state.proofs.NextTimes.{counted_real, counted_fair}
-use borrow.Author.Rules.{rules}
 use Rattle.state.proofs.leaf.count_bytes.Goals as goal
 
 pub returns-in-RealTime : goal.returns-in-RealTime

@@ -3,7 +3,6 @@
 use Prim.Native.Nat.{◌≤◌}
 use mathlib.Core.Path.{sym, subst}
 use native.Mathlib.Omega.{arith}
-use borrow.Author.Rules.{rules}
 use Rattle.curve.specs.Keeping.{most_start}
 use Rattle.curve.specs.declared.Kept.{Kept}
 use Rattle.rules.proofs.Sent.{weigh_small}

@@ -1,6 +1,5 @@
 -- `state::leaf::put_kept` meets its contract: four stores, in the definition's order.
 -- Assumes nothing.
-use borrow.Author.Rules.{rules}
 use Rattle.state.specs.Steps.{with_kept}
 use Rattle.state.proofs.LeafCells.{stored}
 use Rattle.state.proofs.leaf.put_kept.Goals as goal

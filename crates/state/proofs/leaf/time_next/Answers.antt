@@ -1,13 +1,10 @@
 -- `state::leaf::time_next` meets its contract: the eligible time by the rule, and the deadline, where the leaf has a curve.
 -- Assumes nothing.
-use mathlib.Core.Path.{◌≡◌, refl, sym, ◌∙◌}
-use mathlib.Core.Logic.{⊎_elim}
-use native.Mathlib.Omega.{arith}
+use mathlib.Core.Path.{◌≡◌, refl, ◌∙◌}
 use Rattle.state.specs.Table.{at}
 use Rattle.state.specs.Columns.{KIND}
-use Rattle.state.specs.Steps.{NextRipe, untimed, timed}
+use Rattle.state.specs.Steps.{NextRipe, timed}
 use Rattle.state.proofs.NextTimes.{ripe_real, ripe_fair}
-use borrow.Author.Rules.{rules}
 use Rattle.state.proofs.leaf.time_next.Goals as goal
 use Rattle.state.proofs.leaf.time_next.Goals.{Else-get-eq0, Joined-rule, in-RealTime, in-Fair}
 
@@ -20,7 +17,7 @@ ripened : (c : Joined-rule)
     → NextRipe c.args.rule c.args.words.now c.args.class c.match-rule.eligible
 ripened c =
     elim c.match-rule.branch [
-      in-RealTime w ↦ rw w.eligible-is (ripe_real c.args.rule c.args.words.now c.args.class w.in-RealTime.is refl w.ripe_next-eligible.ensures)
+      | in-RealTime w ↦ rw w.eligible-is (ripe_real c.args.rule c.args.words.now c.args.class w.in-RealTime.is refl w.ripe_next-eligible.ensures)
       | in-Fair w ↦ rw w.eligible-is (ripe_fair c.args.rule c.args.words.now c.args.class w.in-Fair.is refl w.get-eligible.ensures)
     ]
 

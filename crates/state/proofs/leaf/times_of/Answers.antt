@@ -2,7 +2,6 @@
 -- Assumes nothing.
 use mathlib.Core.Path.{sym, ◌∙◌}
 use Rattle.state.proofs.NextTimes.{times_bare, times_some}
-use borrow.Author.Rules.{rules}
 use Rattle.state.proofs.leaf.times_of.Goals as goal
 
 pub returns-then-get-eq0 : goal.returns-then-get-eq0

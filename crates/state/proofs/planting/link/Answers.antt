@@ -1,13 +1,12 @@
 -- `state::planting::link` meets its contract: the loop's invariant is that the classes from `i` on are linked, whatever right tree the table has.
 -- Assumes nothing.
-use Prim.Native.Nat.{suc, ◌-◌, ◌≤◌, ◌<◌}
+use Prim.Native.Nat.{suc, ◌-◌}
 use mathlib.Core.Path.{◌≡◌, refl, subst}
 use native.Mathlib.Omega.{arith}
 use native.Mathlib.Nat.{le_antisymm}
-use borrow.Author.Rules.{rules}
 use Rattle.tree.specs.declared.Tree.{Tree}
 use Rattle.state.specs.Planting.{Linkable}
-use Rattle.state.proofs.StartingLinks.{Linking, link_none, parent_cell, link_on, link_done}
+use Rattle.state.proofs.StartingLinks.{Linking, link_none, link_on, link_done}
 use Rattle.state.proofs.planting.link.Goals as goal
 use Rattle.state.proofs.planting.link.Goals.{In-loop-i}
 

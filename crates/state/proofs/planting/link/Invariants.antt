@@ -1,11 +1,8 @@
-use Prim.Native.Nat.{suc, ◌-◌, ◌≤◌, ◌<◌}
-use mathlib.Core.Path.{◌≡◌, refl, subst}
-use native.Mathlib.Omega.{arith}
-use native.Mathlib.Nat.{le_antisymm}
-use borrow.Author.Rules.{rules}
+use Prim.Native.Nat.{◌≤◌}
+use mathlib.Core.Path.{◌≡◌}
 use Rattle.tree.specs.declared.Tree.{Tree}
 use Rattle.state.specs.Planting.{Linkable}
-use Rattle.state.proofs.StartingLinks.{Linking, link_none, parent_cell, link_on, link_done}
+use Rattle.state.proofs.StartingLinks.{Linking}
 use Rattle.state.proofs.planting.link.Given as goal
 
 abbrev pub invariant-loop-i : goal.invariant-loop-i

@@ -1,11 +1,5 @@
 use Prim.Native.Nat.{◌≤◌, ◌-◌}
-use mathlib.Core.Path.{subst}
-use native.Mathlib.Omega.{arith}
-use native.Mathlib.Nat.{le_antisymm}
-use borrow.Author.Rules.{rules}
-use Rattle.tree.specs.Trees.{class_at}
 use Rattle.state.specs.Planting.{PlantedBelow}
-use Rattle.state.proofs.Starting.{planted_none, planted_more}
 use Rattle.state.proofs.planting.plant.Given as goal
 
 abbrev pub invariant-loop-i : goal.invariant-loop-i

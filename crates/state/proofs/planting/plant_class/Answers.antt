@@ -1,6 +1,5 @@
 -- `state::planting::plant_class` meets its contract: parent, share and times, then the code that `encode` gives.
 -- Assumes nothing.
-use borrow.Author.Rules.{rules}
 use Rattle.state.proofs.Starting.{class_stored}
 use Rattle.state.proofs.planting.plant_class.Goals as goal
 

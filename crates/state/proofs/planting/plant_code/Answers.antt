@@ -1,6 +1,5 @@
 -- `state::planting::plant_code` meets its contract: four stores, one after the other.
 -- Assumes nothing.
-use borrow.Author.Rules.{rules}
 use Rattle.state.specs.Planting.{with_code}
 use Rattle.state.proofs.LeafCells.{stored}
 use Rattle.state.proofs.planting.plant_code.Goals as goal

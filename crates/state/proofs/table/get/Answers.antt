@@ -2,7 +2,6 @@
 -- Assumes nothing.
 use mathlib.Core.Path.{refl}
 use Rattle.state.specs.Table.{at}
-use borrow.Author.Rules.{rules}
 use Rattle.state.proofs.table.get.Goals as goal
 
 pub returns : goal.returns

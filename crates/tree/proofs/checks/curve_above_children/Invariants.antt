@@ -1,9 +1,5 @@
 use Prim.Native.Nat.{◌≤◌, ◌-◌}
-use native.Mathlib.Omega.{arith}
-use borrow.Author.Count.{below_none, below_more}
-use borrow.Author.Rules.{rules}
 use Rattle.tree.specs.Rules.{RightPlace, EveryClass}
-use Rattle.curve.proofs.Laws.Answers.{untold_no, untold_yes}
 use Rattle.tree.proofs.checks.curve_above_children.Given as goal
 
 abbrev pub invariant-loop-i : goal.invariant-loop-i

@@ -1,7 +1,6 @@
 -- `tree::checks::curve_below` meets its contract: the definition goes by whether there is such a class, as the code does.
 -- Assumes nothing.
 use mathlib.Core.Path.{sym, ap, ◌∙◌}
-use borrow.Author.Rules.{rules}
 use Rattle.tree.specs.declared.Class.{Class}
 use Rattle.tree.proofs.Curves.{curve_below_lem, curve_above}
 use Rattle.tree.proofs.checks.curve_below.Goals as goal

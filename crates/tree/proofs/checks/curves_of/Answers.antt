@@ -1,14 +1,11 @@
 -- `tree::checks::curves_of` meets its contract: the loop's invariant is that every entry passed is the curve of the class of its number.
 -- Assumes nothing.
-use Prim.Native.Nat.{ℕ, ◌≤◌, ◌<◌, ◌-◌}
 use mathlib.Core.Path.{◌≡◌, sym, ◌∙◌}
 use native.Mathlib.Omega.{arith}
-use borrow.Author.Count.{below_none, below_more}
-use borrow.Author.Rules.{rules}
-use lib.ListN.{length, get_or, length-set}
-use lib.Seq.{ext_get_or, get_or-set_same, get_or-set_other}
+use lib.ListN.{length}
+use lib.Seq.{ext_get_or}
 use Rattle.curve.specs.declared.Curve.TheVariants.{None}
-use Rattle.tree.specs.Trees.{most_classes, curve_below, curves_of}
+use Rattle.tree.specs.Trees.{most_classes, curves_of}
 use Rattle.tree.proofs.Curves.{curves_length, curves_at}
 use Rattle.tree.proofs.checks.curves_of.Goals as goal
 

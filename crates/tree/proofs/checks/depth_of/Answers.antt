@@ -1,9 +1,8 @@
 -- `tree::checks::depth_of` meets its contract: the loop's invariant is that the steps taken and the depth of the class reached are the depth asked for.
 -- Assumes nothing.
-use Prim.Native.Nat.{suc, ◌+◌, ◌≤◌, ◌<◌}
+use Prim.Native.Nat.{suc, ◌<◌}
 use mathlib.Core.Path.{◌≡◌}
 use native.Mathlib.Omega.{arith}
-use borrow.Author.Rules.{rules}
 use Rattle.tree.specs.Trees.{depth}
 use Rattle.tree.proofs.Depths.{lower_parent, depth_root, depth_up}
 use Rattle.tree.proofs.checks.depth_of.Goals as goal

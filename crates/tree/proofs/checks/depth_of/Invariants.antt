@@ -1,9 +1,6 @@
-use Prim.Native.Nat.{suc, ◌+◌, ◌≤◌, ◌<◌}
+use Prim.Native.Nat.{◌+◌, ◌≤◌}
 use mathlib.Core.Path.{◌≡◌}
-use native.Mathlib.Omega.{arith}
-use borrow.Author.Rules.{rules}
 use Rattle.tree.specs.Trees.{depth}
-use Rattle.tree.proofs.Depths.{lower_parent, depth_root, depth_up}
 use Rattle.tree.proofs.checks.depth_of.Given as goal
 
 abbrev pub invariant-loop-here : goal.invariant-loop-here

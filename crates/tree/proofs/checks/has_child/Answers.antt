@@ -1,12 +1,10 @@
 -- `tree::checks::has_child` meets its contract: the loop's invariant is that no class passed is a child, as the root is none.
 -- Assumes nothing.
-use Prim.Native.Nat.{ℕ, ◌≤◌, ◌<◌, ◌-◌}
-use mathlib.Core.Bool.{false}
 use mathlib.Core.Path.{◌≡◌, sym, ap, ◌∙◌}
 use native.Mathlib.Omega.{arith}
 use borrow.Author.Count.{below_more}
 use borrow.Author.Rules.{rules}
-use Rattle.tree.specs.Trees.{parent_of, is_child}
+use Rattle.tree.specs.Trees.{parent_of}
 use Rattle.tree.specs.declared.Class.{Class}
 use Rattle.tree.proofs.Children.{ChildOf, no_child, child_has, has_none}
 use Rattle.tree.proofs.checks.has_child.Goals as goal

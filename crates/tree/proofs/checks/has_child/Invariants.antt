@@ -1,12 +1,7 @@
 use Prim.Native.Nat.{ℕ, ◌≤◌, ◌<◌, ◌-◌}
 use mathlib.Core.Bool.{false}
-use mathlib.Core.Path.{◌≡◌, sym, ap, ◌∙◌}
-use native.Mathlib.Omega.{arith}
-use borrow.Author.Count.{below_more}
-use borrow.Author.Rules.{rules}
-use Rattle.tree.specs.Trees.{parent_of, is_child}
-use Rattle.tree.specs.declared.Class.{Class}
-use Rattle.tree.proofs.Children.{ChildOf, no_child, child_has, has_none}
+use mathlib.Core.Path.{◌≡◌}
+use Rattle.tree.specs.Trees.{is_child}
 use Rattle.tree.proofs.checks.has_child.Given as goal
 
 abbrev pub invariant-loop-i : goal.invariant-loop-i

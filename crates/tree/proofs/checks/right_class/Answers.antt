@@ -3,7 +3,6 @@
 use Prim.Native.Nat.{◌<◌}
 use mathlib.Core.Path.{◌≡◌}
 use native.Mathlib.Omega.{arith}
-use borrow.Author.Rules.{rules}
 use Rattle.curve.proofs.Laws.Answers.{exactly_iff}
 use Rattle.tree.proofs.Classes.{root_right, right_root, other_right, right_other}
 use Rattle.tree.proofs.checks.right_class.Goals as goal

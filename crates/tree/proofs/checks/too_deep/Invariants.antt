@@ -1,7 +1,4 @@
 use Prim.Native.Nat.{◌≤◌, ◌-◌}
-use native.Mathlib.Omega.{arith}
-use borrow.Author.Count.{below_none, below_more}
-use borrow.Author.Rules.{rules}
 use Rattle.tree.specs.Rules.{RightDepth, EveryClass}
 use Rattle.tree.proofs.checks.too_deep.Given as goal
 

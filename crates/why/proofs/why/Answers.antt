@@ -1,0 +1,74 @@
+-- `why::why` meets its contract: refused by the tick, or for its room, or filled; for every history that the arrays show.
+-- Assumes nothing.
+use Prim.Native.Nat.{ℕ, ◌*◌, ◌≤◌, ◌<◌}
+use mathlib.Core.Path.{◌≡◌}
+use mathlib.Core.List.{List}
+use native.Mathlib.Omega.{arith}
+use lib.ListN.{length}
+use Rattle.tree.specs.declared.Refusal.TheVariants.{SmallBuffer}
+use Rattle.rules.specs.Calls.{History}
+use Rattle.rules.specs.Lawful.{Lawful}
+use Rattle.state.specs.State.{Shows}
+use Rattle.reason.specs.Reasons.{numbers}
+use Rattle.state.proofs.Shown.{clock_shown, stamp_shown, shown_told}
+use Rattle.why.specs.declared.Sheet.{Sheet}
+use Rattle.why.specs.declared.Sheet.TheVariants.{Lines}
+use Rattle.why.specs.Promises.{line_count, WhyRight}
+use Rattle.why.specs.Steps.{Fillable, Filled}
+use Rattle.why.proofs.Calls.{count_narrow, clock_refuses, too_short, fillable, sheet_right}
+use Rattle.why.proofs.why.Goals as goal
+use Rattle.why.proofs.why.Goals.{After-leaves-lines}
+
+module _ (c : After-leaves-lines) {l : List ℕ} (h : History) (law : Lawful h) (shows : Shows c.args.words.now l h) where
+  counted : c.leaves-lines.result ≡ line_count h.tree
+  counted = c.leaves-lines.ensures h.tree h.calls (shown_told law shows)
+
+  short : (s : List ℕ) → length s < numbers * c.leaves-lines.result → WhyRight h c.args.stamp (Sheet.Refused SmallBuffer) s s
+  short s less =
+      too_short h law shows c.args.stamp c.tick.ensures s c.in-At.now
+      c.in-At.is (omega (arith, counted))
+
+  module _ (s : List ℕ) (room : numbers * c.leaves-lines.result ≤ length s) where
+    ready : Fillable c.args.words.now h.tree h.calls c.in-At.now s
+    ready =
+        fillable h law shows c.args.stamp c.tick.ensures s c.in-At.now
+        c.in-At.is (omega (arith, counted))
+
+    done : (t : List ℕ) → Filled h.tree h.calls c.in-At.now h.tree.count s t
+        → WhyRight h c.args.stamp (Lines c.leaves-lines.result) s t
+    done t f =
+        sheet_right h law shows c.args.stamp c.tick.ensures s c.in-At.now
+        c.in-At.is (omega (arith, counted)) c.leaves-lines.result t counted f
+
+pub tick-requires : goal.tick-requires
+tick-requires c = let p = c.requires.holds in (clock_shown p.lawful p.shows, stamp_shown p.lawful p.shows)
+
+pub overflow_mul-lines : goal.overflow_mul-lines
+overflow_mul-lines c =
+    let p = c.requires.holds in
+    omega (arith, counted (goal.at.overflow_mul-lines c).After-leaves-lines p.history p.lawful p.shows, count_narrow p.lawful)
+
+pub returns-then-sheet-lines : goal.returns-then-sheet-lines
+returns-then-sheet-lines c = λ l h law shows. short (goal.at.returns-then-sheet-lines c).After-leaves-lines h law shows c.args.sheet.now (omega (arith, c.if-sheet-lines.true))
+
+pub fill-requires : goal.fill-requires
+fill-requires c =
+    let p = c.requires.holds in
+    record {
+      tree = p.history.tree;
+      calls = p.history.calls;
+      holds = ready (goal.at.fill-requires c).After-leaves-lines p.history p.lawful p.shows c.args.sheet.now (omega (arith, c.if-sheet-lines.false));
+    }
+
+pub returns-in-Refused : goal.returns-in-Refused
+returns-in-Refused c = λ l h law shows.
+    let start = c in
+    clock_refuses h law shows start.args.stamp c.tick.ensures start.args.sheet.now c.in-Refused.why c.in-Refused.is
+
+pub returns-else-sheet-lines : goal.returns-else-sheet-lines
+returns-else-sheet-lines c = λ l h law shows.
+    let counting = (goal.at.returns-else-sheet-lines c).After-leaves-lines in
+    let room = c.if-sheet-lines.false in
+    let s = c.args.sheet.now in
+    done counting h law shows s (omega (arith, room)) c.fill.new.sheet
+    (c.fill.ensures h.tree h.calls (ready counting h law shows s (omega (arith, room))))
