@@ -1,4 +1,4 @@
--- `log::record_of` meets its contract: each test is one of the definition's.
+-- `records::record_of` meets its contract: each test is one of the definition's.
 -- Assumes nothing.
 use mathlib.Core.Path.{refl}
 use borrow.Author.Tests.{eq-eqb, ne_eqb}
