@@ -8,8 +8,7 @@ use Rattle.tree.specs.Trees.{class_at, empty_tree, no_class}
 use Rattle.tree.specs.declared.Class.{Class}
 use Rattle.tree.specs.declared.Refusal.{Refusal}
 use Rattle.tree.specs.declared.Tree.{Tree}
-use Rattle.tree.specs.declared.Verdict.{Verdict}
-use Rattle.tree.specs.declared.Verdict.TheVariants.{Right}
+use Rattle.tree.specs.Verdicts.{Verdict, all_right}
 use Rattle.tree.proofs.Verdicts.{shape_checked_one, checked_one}
 
 pub number_one : (refusal : Refusal) (r s : ℕ) → r ≡ number_of refusal → s ≡ number_of refusal → r ≡ s
@@ -25,7 +24,7 @@ pub class_at_one : (t : Tree) (i : ℕ) (r s : Class) → r ≡ class_at t i →
 class_at_one t i r s p q = p ∙ sym q
 
 pub shape_one : (t : Tree) (v w : Verdict) → ShapeJudged t v → ShapeJudged t w → v ≡ w
-shape_one t = shape_checked_one t (λ v. v ≡ Right) (λ v w p q. p ∙ sym q)
+shape_one t = shape_checked_one t (λ v. v ≡ all_right) (λ v w p q. p ∙ sym q)
 
 pub check_one : (t : Tree) (v w : Verdict) → Judged t v → Judged t w → v ≡ w
-check_one t = checked_one t (λ v. v ≡ Right) (λ v w p q. p ∙ sym q)
+check_one t = checked_one t (λ v. v ≡ all_right) (λ v w p q. p ∙ sym q)

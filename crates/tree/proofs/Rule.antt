@@ -7,8 +7,7 @@ use native.Mathlib.Nat.{le_antisymm}
 use native.Mathlib.Omega.{arith}
 use Rattle.curve.proofs.Laws.Order.{le_or_lt}
 use Rattle.tree.specs.Rules.{EveryClass, LowestFault, Checking, broken, kept, BrokenWhole}
-use Rattle.tree.specs.declared.Verdict.{Verdict}
-use Rattle.tree.specs.declared.Verdict.TheVariants.{Refused}
+use Rattle.tree.specs.Verdicts.{Verdict, refused}
 use Rattle.tree.proofs.Numbers.{refusal_by_number}
 
 -- a relation that names at most one verdict
@@ -35,7 +34,7 @@ whole_none good a = a.fault good
 module _ {number : ℕ} {Kept : Type 0} {BrokenAt : ℕ → Type 0} {Next : Verdict → Type 0} where
   pub rule_one : ((i : ℕ) → Kept → BrokenAt i → ⊥) → ((i j : ℕ) → BrokenAt i → BrokenAt j → i ≡ j) → AtMostOne Next →
       AtMostOne (Checking number Kept BrokenAt Next)
-  rule_one apart one next v w (broken {why = a} {i = i} e b) (broken {why = a'} {i = i'} e' b') = ap₂ Refused (refusal_by_number a a' (e ∙ sym e')) (one i i' b b')
+  rule_one apart one next v w (broken {why = a} {i = i} e b) (broken {why = a'} {i = i'} e' b') = ap₂ refused (refusal_by_number a a' (e ∙ sym e')) (one i i' b b')
   rule_one apart one next v w (broken {i = i} e b) (kept k n) = absurd (apart i k b)
   rule_one apart one next v w (kept k n) (broken {i = i} e b) = absurd (apart i k b)
   rule_one apart one next v w (kept k n) (kept k' n') = next v w n n'

@@ -14,8 +14,7 @@ use Rattle.tree.specs.Rules.{RightClass, RightBody, RightDepth, RightPlace, Righ
 use Rattle.tree.specs.Trees.{most_classes, parent_of, share_of, curve_of, is_child, child_below, has_child, is_leaf, steps_up, depth, curve_below, curves_from, curves_of, SameTree}
 use Rattle.tree.specs.declared.Class.{Class}
 use Rattle.tree.specs.declared.Tree.{Tree}
-use Rattle.tree.specs.declared.Verdict.{Verdict}
-use Rattle.tree.specs.declared.Verdict.TheVariants.{Right}
+use Rattle.tree.specs.Verdicts.{Verdict, all_right}
 use Rattle.tree.proofs.Children.{ChildOf, child_of, is_child_lem}
 use Rattle.tree.proofs.Curves.{curve_below_lem, curve_above}
 use Rattle.tree.proofs.Depths.{lower_parent}
@@ -156,7 +155,7 @@ module _ (t u : Tree) (same : SameTree t u) where
   same_checked Next v = same_shape_checked (FitChecked t Next) (FitChecked u Next) v (same_fit_checked Next v)
 
   pub same_shape_judged : (v : Verdict) → ShapeJudged t v → ShapeJudged u v
-  same_shape_judged v = same_shape_checked (λ w. w ≡ Right) (λ w. w ≡ Right) v (λ right. right)
+  same_shape_judged v = same_shape_checked (λ w. w ≡ all_right) (λ w. w ≡ all_right) v (λ right. right)
 
   pub same_judged : (v : Verdict) → Judged t v → Judged u v
-  same_judged v judged = same_checked (λ w. w ≡ Right) v judged
+  same_judged v judged = same_checked (λ w. w ≡ all_right) v judged

@@ -22,8 +22,7 @@ use Rattle.tree.specs.declared.Class.{Class}
 use Rattle.tree.specs.declared.Refusal.{Refusal}
 use Rattle.tree.specs.declared.Refusal.TheVariants.{WrongCount, WrongBody, TooDeep, CurveAboveChildren, CurvesDontFit}
 use Rattle.tree.specs.declared.Tree.{Tree}
-use Rattle.tree.specs.declared.Verdict.{Verdict}
-use Rattle.tree.specs.declared.Verdict.TheVariants.{Right, Refused}
+use Rattle.tree.specs.Verdicts.{Verdict, all_right, refused}
 
 -- ---- what can be tested
 none_dec : (S : Curve) → Dec (S ≡ None)
@@ -73,12 +72,12 @@ Some Next = (v : Verdict) × Next v
 
 of_tree_some : (why : Refusal) {Good : Type 0} {Next : Verdict → Type 0} → Dec Good → (Good → Some Next) → Some (OfTree (number_of why) Good Next)
 of_tree_some why (yes good) next = let after = next good in (after.0, kept good after.1)
-of_tree_some why (no bad) next = (Refused why 0, broken refl (record { zero = refl; fault = bad }))
+of_tree_some why (no bad) next = (refused why 0, broken refl (record { zero = refl; fault = bad }))
 
 of_classes_some : (why : Refusal) (n : ℕ) (Good : ℕ → Type 0) {Next : Verdict → Type 0} → ((i : ℕ) → Dec (Good i)) →
     (EveryClass Good n → Some Next) → Some (OfClasses (number_of why) n Good Next)
 of_classes_some why n Good test next =
-    ⊎_elim (λ every. let after = next every in (after.0, kept every after.1)) (λ found. (Refused why found.0, broken refl found.1))
+    ⊎_elim (λ every. let after = next every in (after.0, kept every after.1)) (λ found. (refused why found.0, broken refl found.1))
     (lowest_or_every Good test n)
 
 pub shape_checked_some : (t : Tree) {Next : Verdict → Type 0} → (RightShape t → Some Next) → Some (ShapeChecked t Next)
@@ -91,7 +90,7 @@ shape_checked_some t next =
     (λ places. next (record { count = count; bodies = bodies; depths = depths; places = places })))))
 
 pub shape_some : (t : Tree) → (v : Verdict) × ShapeJudged t v
-shape_some t = shape_checked_some t (λ shape. (Right, refl))
+shape_some t = shape_checked_some t (λ shape. (all_right, refl))
 
 pub check_some : (t : Tree) → (v : Verdict) × Judged t v
-check_some t = shape_checked_some t (λ shape. of_tree_some CurvesDontFit (fit_dec (curves_of t)) (λ fit. (Right, refl)))
+check_some t = shape_checked_some t (λ shape. of_tree_some CurvesDontFit (fit_dec (curves_of t)) (λ fit. (all_right, refl)))

@@ -1,19 +1,16 @@
 -- Document 01, "Numbers of refusal": the rules 4, 7, 8, 9 and 10 that a tree is held to, and the one verdict that they give it. The first four are about
 -- its shape, the last about its curves together.
 -- Assumes nothing.
-use Rattle.std.specs.Prelude.{ℕ, zero, suc, ◌≤◌, ◌<◌, ◌≡◌, true}
+use Rattle.std.specs.Prelude.{ℕ, zero, suc, ◌≤◌, ◌<◌, ◌≡◌, true, Option, Some, None}
 use Rattle.curve.specs.Curves.{whole, Within, RightRate, RightCurve}
 use Rattle.curve.specs.Fit.{CurvesFit}
-use Rattle.curve.specs.declared.Curve.TheVariants.{None}
+use Rattle.curve.specs.declared.Curve.{Curve}
 use Rattle.tree.specs.Numbers.{number_of}
 use Rattle.tree.specs.Trees.{most_classes, deepest, class_at, curve_of, has_child, depth, curves_of}
 use Rattle.tree.specs.declared.Class.{Class}
 use Rattle.tree.specs.declared.Tree.{Tree}
 use Rattle.tree.specs.declared.Refusal.{Refusal}
-use Rattle.tree.specs.declared.Fault.{Fault}
-use Rattle.tree.specs.declared.Fault.TheVariants.{At, Nowhere}
-use Rattle.tree.specs.declared.Verdict.{Verdict}
-use Rattle.tree.specs.declared.Verdict.TheVariants.{Right, Refused}
+use Rattle.tree.specs.Verdicts.{Verdict, all_right, refused}
 
 -- 4, "count outside 2 to 64": what is kept
 abbrev pub RightCount : Tree → Type 0
@@ -23,7 +20,7 @@ RightCount t = Within 2 most_classes t.count
 pub record RightRoot (c : Class) : Type 0 where
   pub parent : c.parent ≡ 0
   pub share : c.share ≡ whole
-  pub curve : c.curve ≡ None
+  pub curve : c.curve ≡ Curve.None
 
 -- "Any other class has a parent of lower number"; "rate or share: 1 to 65,536"; and a curve's numbers
 pub record RightOther (c : Class) (i : ℕ) : Type 0 where
@@ -44,7 +41,7 @@ RightDepth t i = depth t i ≤ deepest
 
 -- 9, "real-time curve on a class with children"
 abbrev pub RightPlace : Tree → ℕ → Type 0
-RightPlace t i = has_child t i ≡ true → curve_of t i ≡ None
+RightPlace t i = has_child t i ≡ true → curve_of t i ≡ Curve.None
 
 -- every class below n is right
 abbrev pub EveryClass : (ℕ → Type 0) → ℕ → Type 0
@@ -57,9 +54,9 @@ pub record LowestFault (Good : ℕ → Type 0) (n i : ℕ) : Type 0 where
   pub lowest : EveryClass Good i
 
 -- what a search for a fault must find
-abbrev pub Found : (ℕ → Type 0) → ℕ → Fault → Type 0
-Found Good n (At i) = LowestFault Good n i
-Found Good n Nowhere = EveryClass Good n
+abbrev pub Found : (ℕ → Type 0) → ℕ → Option ℕ → Type 0
+Found Good n (Some i) = LowestFault Good n i
+Found Good n None = EveryClass Good n
 
 -- a tree that keeps the rules of shape, 4, 7, 8 and 9
 pub record RightShape (t : Tree) : Type 0 where
@@ -76,7 +73,7 @@ pub record RightTree (t : Tree) : Type 0 where
 -- The check of one rule, by its number in 01's table: where the rule is broken the verdict is that refusal, and names the class; where it is kept the
 -- checks after it decide.
 pub data Checking (number : ℕ) (Kept : Type 0) (BrokenAt : ℕ → Type 0) (Next : Verdict → Type 0) : Verdict → Type 0 where
-  broken : {why : Refusal} {i : ℕ} → number_of why ≡ number → BrokenAt i → Checking number Kept BrokenAt Next (Refused why i)
+  broken : {why : Refusal} {i : ℕ} → number_of why ≡ number → BrokenAt i → Checking number Kept BrokenAt Next (refused why i)
   kept : {v : Verdict} → Kept → Next v → Checking number Kept BrokenAt Next v
 
 -- a rule of the tree as a whole: "0 for 1 to 5 and 10"
@@ -110,8 +107,8 @@ Checked t Next = ShapeChecked t (FitChecked t Next)
 
 -- the verdict of a tree by its shape alone
 abbrev pub ShapeJudged : Tree → Verdict → Type 0
-ShapeJudged t = ShapeChecked t (λ v. v ≡ Right)
+ShapeJudged t = ShapeChecked t (λ v. v ≡ all_right)
 
 -- the verdict of a tree
 abbrev pub Judged : Tree → Verdict → Type 0
-Judged t = Checked t (λ v. v ≡ Right)
+Judged t = Checked t (λ v. v ≡ all_right)

@@ -6,6 +6,7 @@
 ghost use Rattle.std.specs.Prelude.{◌≡◌};
 ghost use Rattle.tree.specs.Numbers.{number_of};
 ghost use Rattle.tree.specs.Rules.{ShapeJudged, Judged};
+ghost use Rattle.tree.specs.Verdicts.{refused};
 ghost use Rattle.tree.specs.Trees.{class_at, empty_tree, no_class};
 
 use curve::Curve;
@@ -22,7 +23,7 @@ pub const MOST_CLASSES: u32 = CLASSES as u32;
 pub const DEEPEST: u32 = 8;
 
 // A class: the number of its parent, its share, and its real-time curve.
-#[derive(Clone, Copy)]
+#[derive(Clone, Copy, PartialEq, Eq)]
 pub struct Class {
     pub parent: u32,
     pub share: u32,
@@ -37,7 +38,7 @@ pub struct Tree {
 }
 
 // What is refused, one for each number of document 01's table, in its order.
-#[derive(Clone, Copy)]
+#[derive(Clone, Copy, PartialEq, Eq)]
 pub enum Refusal {
     ShortFile,
     NoMark,
@@ -58,18 +59,11 @@ pub enum Refusal {
     SmallBuffer,
 }
 
-// A tree is right, or it is refused for a class.
-#[derive(Clone, Copy)]
-pub enum Verdict {
-    Right,
-    Refused { why: Refusal, class: u32 },
-}
-
-// What a search through the classes finds: the lowest class at fault, or none.
-#[derive(Clone, Copy)]
-enum Fault {
-    At(u32),
-    Nowhere,
+// Why a tree or a file is refused: the first rule that it breaks, and the lowest class at fault.
+#[derive(Clone, Copy, PartialEq, Eq)]
+pub struct Fault {
+    pub why: Refusal,
+    pub class: u32,
 }
 
 // A refusal's number in document 01's table.
@@ -125,53 +119,43 @@ pub fn class_at(tree: Tree, number: u32) -> Class
     if MOST_CLASSES <= number {
         return no_class();
     }
-    let at = number as usize;
-    tree.classes[at]
+    tree.classes[number as usize]
 }
 
 // The verdict of a tree by its shape alone, the rules 4, 7, 8 and 9: each rule over all classes before
 // the next, and the lowest class at fault.
-pub fn shape(tree: Tree) -> Verdict
+pub fn shape(tree: Tree) -> Result<(), Fault>
     ensures { ShapeJudged tree result }
 {
-    let count = tree.count;
-    if count < 2 {
+    if tree.count < 2 || MOST_CLASSES < tree.count {
         return refused(Refusal::WrongCount, 0);
     }
-    if MOST_CLASSES < count {
-        return refused(Refusal::WrongCount, 0);
-    }
-    if let Fault::At(class) = checks::wrong_body(tree) {
+    if let Some(class) = checks::wrong_body(tree) {
         return refused(Refusal::WrongBody, class);
     }
-    if let Fault::At(class) = checks::too_deep(tree) {
+    if let Some(class) = checks::too_deep(tree) {
         return refused(Refusal::TooDeep, class);
     }
-    if let Fault::At(class) = checks::curve_above_children(tree) {
+    if let Some(class) = checks::curve_above_children(tree) {
         return refused(Refusal::CurveAboveChildren, class);
     }
-    Verdict::Right
+    Ok(())
 }
 
 // The verdict of a tree: its shape, and then rule 10, whether its curves fit.
-pub fn check(tree: Tree) -> Verdict
+pub fn check(tree: Tree) -> Result<(), Fault>
     ensures { Judged tree result }
 {
-    if let Verdict::Refused { why, class } = shape(tree) {
-        return refused(why, class);
-    }
+    shape(tree)?;
     if curve::fit::fits(checks::curves_of(tree)) {
-        Verdict::Right
+        Ok(())
     } else {
         refused(Refusal::CurvesDontFit, 0)
     }
 }
 
-fn refused(why: Refusal, class: u32) -> Verdict
-    ensures { result ≡ Verdict.Refused why class }
+fn refused(why: Refusal, class: u32) -> Result<(), Fault>
+    ensures { result ≡ refused why class }
 {
-    Verdict::Refused {
-        why: why,
-        class: class,
-    }
+    Err(Fault { why, class })
 }

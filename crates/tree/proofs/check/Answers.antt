@@ -2,34 +2,33 @@
 -- Assumes nothing.
 use mathlib.Core.List.{List}
 use mathlib.Core.Path.{◌≡◌, subst}
+use borrow.Author.Rules.{rules}
+use Rattle.std.specs.Prelude.{Err}
 use Rattle.curve.specs.Answers.{Exactly}
 use Rattle.curve.specs.Fit.{CurvesFit}
 use Rattle.curve.specs.declared.Curve.{Curve}
 use Rattle.curve.proofs.Laws.Answers.{told_yes, told_no}
-use Rattle.tree.specs.Rules.{RightShape, FitChecked, ShapeJudged}
+use Rattle.tree.specs.Rules.{RightShape, FitChecked}
 use Rattle.tree.specs.Trees.{curves_of}
-use Rattle.tree.specs.declared.Verdict.{Verdict}
-use Rattle.tree.specs.declared.Verdict.TheVariants.{Right}
+use Rattle.tree.specs.Verdicts.{Verdict, all_right}
 use Rattle.tree.proofs.Verdicts.{shape_refused, judged_shape, refused-10, right_judged}
 use Rattle.tree.proofs.check.Goals as goal
-use Rattle.tree.proofs.check.Goals.{After-fits, In_default}
+use Rattle.tree.proofs.check.Goals.{After-fits, In_ok-shape}
 
 abbrev Last : Verdict → Type 0
-Last v = v ≡ Right
+Last v = v ≡ all_right
 
 -- what the steps passed have shown
-shaped : (c : In_default) → RightShape c.args.tree
-shaped c = judged_shape _ (subst (ShapeJudged _) c.in_default.is c.shape.ensures)
+shaped : (c : In_ok-shape) → RightShape c.args.tree
+shaped c = judged_shape _ c.in_ok-shape.ensures
 
 fit : (c : After-fits) → Exactly c.fits.result (CurvesFit (curves_of c.args.tree))
 fit c = subst (λ (l : List Curve). Exactly c.fits.result (CurvesFit l)) c.curves_of.ensures c.fits.ensures
 
-pub returns-in-Refused : goal.returns-in-Refused
-returns-in-Refused c =
-    let found = c.before in
-    let asked = found.before in
-    rw c.refused.ensures
-    (shape_refused _ (FitChecked asked.args.tree Last) _ _ (subst (ShapeJudged _) found.in-Refused.is asked.shape.ensures))
+pub returns-in_err-shape : goal.returns-in_err-shape
+returns-in_err-shape c =
+    let said : c.from_residual.result ≡ Err c.in_err-shape.field-0.0 = search rules in
+    rw said (shape_refused c.args.tree (FitChecked c.args.tree Last) _ _ c.in_err-shape.ensures)
 
 pub returns-then-fits : goal.returns-then-fits
 returns-then-fits c =
@@ -38,5 +37,5 @@ returns-then-fits c =
 pub returns-else-fits : goal.returns-else-fits
 returns-else-fits c =
     let asked = c.before.before in
-    rw c.refused-else-fits.ensures
+    rw c.refused.ensures
     (refused-10 _ Last (shaped asked.before.before) (told_no asked.fits.result (fit asked) c.if-fits.false))

@@ -11,4 +11,4 @@ returns-then-tree-class c = sym (curve_above c.args.tree c.args.class c.if-tree-
 pub returns : goal.returns
 returns c =
     let args = c.args in
-    ap (λ (k : Class). k.curve) c.class_at-own.ensures ∙ sym (curve_below_lem args.tree args.class c.if-tree-class.false)
+    ap (λ (k : Class). k.curve) c.class_at.ensures ∙ sym (curve_below_lem args.tree args.class c.if-tree-class.false)

@@ -1,9 +1,0 @@
-use Prim.Native.Nat.{◌≤◌, ◌-◌}
-use Rattle.tree.specs.Rules.{RightPlace, EveryClass}
-use Rattle.tree.proofs.checks.curve_above_children.Given as goal
-
-abbrev pub invariant-loop-i : goal.invariant-loop-i
-invariant-loop-i l = (l.i ≤ l.tree.count) × EveryClass (RightPlace l.tree) l.i
-
-abbrev pub decreases-loop-i : goal.decreases-loop-i
-decreases-loop-i l = l.tree.count - l.i
