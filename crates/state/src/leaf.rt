@@ -65,17 +65,17 @@ pub fn put_times(words: &mut Words, class: usize, eligible: u64, deadline: u64)
 }
 
 // The eligible time and the deadline of the leaf's head, where it has a curve.
-pub fn times_of(words: &Words, class: usize) -> Times
+pub fn times_of(words: &Words, class: usize) -> Option<Times>
     requires { class < CLASSES }
     ensures { result ≡ times_in words.now class }
 {
     if get(words, class, KIND) == 0 {
-        return Times::Untimed;
+        return None;
     }
-    Times::Timed {
+    Some(Times {
         eligible: get(words, class, ELIGIBLE),
         deadline: get(words, class, DEADLINE),
-    }
+    })
 }
 
 // The bytes sent by the real-time rule.

@@ -1,8 +1,8 @@
 -- `sched::depart` meets its contract: refused by the tick, or none waits, or the packet that the rules choose leaves; for every history that the arrays
 -- show. Assumes nothing.
+use Rattle.std.specs.Prelude.{Some, None, Ok, Err}
+use Rattle.rules.specs.Kinds.{Departure}
 use mathlib.Core.Path.{◌≡◌}
-use Rattle.rules.specs.declared.Departure.{Departure}
-use Rattle.rules.specs.declared.Departure.TheVariants.{Leaves, NoneWaits}
 use Rattle.rules.specs.Calls.{left, History}
 use Rattle.rules.specs.Lawful.{Allowed, Lawful}
 use Rattle.rules.proofs.Allowed.{Timely, left_allowed}
@@ -57,10 +57,10 @@ pub returns-in-Refused : goal.returns-in-Refused
 returns-in-Refused c =
     let start = c in
     let right : EveryHistory start.args.words.now start.args.lengths.now
-    (λ h. DepartRight h start.args.stamp (Departure.Refused c.in-Refused.why) start.args.words.now start.args.lengths.now) =
+    (λ h. DepartRight h start.args.stamp (Err c.in-Refused.why) start.args.words.now start.args.lengths.now) =
     λ h law shows. refused_right h law shows start.args.stamp c.tick.ensures c.in-Refused.why c.in-Refused.is
     in
-    record { right = right; reached = let p = start.requires in departs_reached p.lawful start.args.stamp (Departure.Refused c.in-Refused.why) (right p.history p.lawful p.shows) }
+    record { right = right; reached = let p = start.requires in departs_reached p.lawful start.args.stamp (Err c.in-Refused.why) (right p.history p.lawful p.shows) }
 
 pub returns-in-Nothing : goal.returns-in-Nothing
 returns-in-Nothing c =
@@ -68,12 +68,12 @@ returns-in-Nothing c =
     let now = chose in
     let start = now in
     let right : EveryHistory start.args.words.now start.args.lengths.now
-    (λ h. DepartRight h start.args.stamp NoneWaits c.move_clock.new.words start.args.lengths.now) =
+    (λ h. DepartRight h start.args.stamp (Ok None) c.move_clock.new.words start.args.lengths.now) =
     λ h law shows.
     none_right h law start.args.stamp start.ranges.stamp.fits shows (passes now.before.before.before.before h law shows).0 (passes now.before.before.before.before h law shows).1
     (rw c.in-Nothing.is at (chose.choose.ensures h.tree h.calls (shown_told law shows))) c.move_clock.ensures
     in
-    record { right = right; reached = let p = start.requires in departs_reached p.lawful start.args.stamp NoneWaits (right p.history p.lawful p.shows) }
+    record { right = right; reached = let p = start.requires in departs_reached p.lawful start.args.stamp (Ok None) (right p.history p.lawful p.shows) }
 
 pub returns-in-Leaf : goal.returns-in-Leaf
 returns-in-Leaf c =
@@ -82,9 +82,9 @@ returns-in-Leaf c =
     let now = chosen in
     let start = now in
     let right : EveryHistory start.args.words.now start.args.lengths.now
-    (λ h. DepartRight h start.args.stamp (Leaves took.take-packet.result) c.move_clock-in-Leaf.new.words took.take-packet.new.lengths) =
+    (λ h. DepartRight h start.args.stamp (Ok (Some took.take-packet.result)) c.move_clock-in-Leaf.new.words took.take-packet.new.lengths) =
     λ h law shows.
     leaves_right h law start.args.stamp start.ranges.stamp.fits (passes now.before.before.before.before.before.before.before h law shows).0 (passes now.before.before.before.before.before.before.before h law shows).1 (allowed chosen.before.before.before.before.before h law shows)
     (took.take-packet.ensures h law shows now.in-At.now (allowed chosen.before.before.before.before.before h law shows)) c.move_clock-in-Leaf.ensures
     in
-    record { right = right; reached = let p = start.requires in departs_reached p.lawful start.args.stamp (Leaves took.take-packet.result) (right p.history p.lawful p.shows) }
+    record { right = right; reached = let p = start.requires in departs_reached p.lawful start.args.stamp (Ok (Some took.take-packet.result)) (right p.history p.lawful p.shows) }
