@@ -35,7 +35,7 @@ use Rattle.state.specs.Columns.{HEADER, CLOCK, STAMP, ACCEPTED, COUNT, NEXT_NUMB
 use Rattle.state.specs.State.{has_times, ShowsLeaf, ShowsSlots, Shows, Reached}
 use Rattle.sched.specs.Promises.{ArriveRight}
 use Rattle.state.specs.Steps.{kept_in, tick_of}
-use Rattle.sched.specs.StepsArriving.{BeforeBegin, AfterBegin, ShowsButClock, ReceiveAccepted, ReceiveRight, is_accepted}
+use Rattle.sched.specs.StepsArriving.{BeforeBegin, AfterBegin, ShowsButClock, ReceiveAccepted, ReceiveRefused}
 use Rattle.state.proofs.Cells.{length_with, at_with_same, at_with_class, at_with_column}
 use Rattle.state.proofs.Choosing.{count_most}
 use Rattle.state.proofs.LeafCells.{stored, kept_in_lem, tree_cells, fair_cells}
@@ -299,7 +299,8 @@ module _ {m l : List ℕ} {h : History} (law : Lawful h) (s : Shows m l h) (stam
         subst (λ (x : ℕ). Allowed h.tree h.calls (came x j n)) (sym now_is.0) (passed_allowed h law stamp j n (same_outcome ∙ opened))
 
     module _ (m' l' : List ℕ) where
-      accepted_right : {m'' : List ℕ} {number : ℕ} → stamp < wheel → ReceiveAccepted h t j n number m' l'
+      -- the clock is moved where the arrival was accepted
+      pub accepted_right : {m'' : List ℕ} {number : ℕ} → stamp < wheel → ReceiveAccepted h t j n number m' l'
           → m'' ≡ with_header (with_header m' CLOCK t) STAMP stamp → ArriveRight h stamp j n (Ok number) m'' l'
       unfolding clock
       accepted_right small a moved =
@@ -313,12 +314,6 @@ module _ {m l : List ℕ} {h : History} (law : Lawful h) (s : Shows m l h) (stam
                 (clock_moved t stamp (count_most h.tree law.grown) a.right.shows refl (sym last)));
           }
 
-      -- the clock is moved where the arrival was accepted, and left where it was refused
-      pub moved_right : {m'' : List ℕ} (a : Arrival) → is_accepted a ≡ true → ReceiveRight h t j n a m' l' → stamp < wheel
-          → m'' ≡ with_header (with_header m' CLOCK t) STAMP stamp → ArriveRight h stamp j n a m'' l'
-      moved_right (Ok number) e right small moved = accepted_right small right moved
-      moved_right (Err why) e right small moved = absurd (mathlib.Core.Bool.false≢true e)
-
-      pub unmoved_right : (a : Arrival) → is_accepted a ≡ false → ReceiveRight h t j n a m' l' → ArriveRight h stamp j n a m' l'
-      unmoved_right (Ok number) e right = absurd (mathlib.Core.Bool.false≢true (sym e))
-      unmoved_right (Err why) e right = refused_right why (same_outcome ∙ right.checked) right.shows
+      -- and left where it was refused
+      pub unmoved_right : (why : Refusal) → ReceiveRefused h j n why m' l' → ArriveRight h stamp j n (Err why) m' l'
+      unmoved_right why right = refused_right why (same_outcome ∙ right.checked) right.shows

@@ -148,9 +148,10 @@ shown_one f reached a b first second =
 
 head_one : (tree : Tree) (cs : List Call) (j : ℕ) (a b : Option Times) → HeadTimes tree cs j a → HeadTimes tree cs j b → a ≡ b
 head_one tree cs j None None p q = refl
-head_one tree cs j None (Some (record { eligible = e; deadline = d })) p q = never q.timed p
-head_one tree cs j (Some (record { eligible = e; deadline = d })) None p q = never p.timed q
-head_one tree cs j (Some (record { eligible = e; deadline = d })) (Some (record { eligible = e'; deadline = d' })) p q = ap₂ Some (record { eligible = (least_one p.is_eligible q.is_eligible); deadline = (least_one p.is_deadline q.is_deadline) })
+head_one tree cs j None (Some t) p q = never q.timed p
+head_one tree cs j (Some s) None p q = never p.timed q
+head_one tree cs j (Some s) (Some t) p q =
+    ap₂ (λ e d. Some (record { eligible = e; deadline = d })) (least_one p.is_eligible q.is_eligible) (least_one p.is_deadline q.is_deadline)
 
 pub head_times_one : {m l : List ℕ} → Reached m l → (class : ℕ) (a b : Option Times)
     → EveryHistory m l (λ h. HeadTimes h.tree h.calls class a)

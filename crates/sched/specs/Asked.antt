@@ -15,4 +15,4 @@ pub record HeadTimed (tree : Tree) (cs : List Call) (j eligible deadline : ℕ) 
 -- "for a leaf with a real-time curve eligible time and deadline" of the head packet; untimed where no packet waits or the class has no real-time curve
 abbrev pub HeadTimes : Tree → List Call → ℕ → Option Times → Type 0
 HeadTimes tree cs j None = has_times tree cs j ≡ false
-HeadTimes tree cs j (Some (record { eligible = eligible; deadline = deadline })) = HeadTimed tree cs j eligible deadline
+HeadTimes tree cs j (Some times) = HeadTimed tree cs j times.eligible times.deadline

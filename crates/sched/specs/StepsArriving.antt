@@ -1,7 +1,7 @@
 -- What the steps of an arrival make of the table: the small definitions that their promises cite.
 -- Assumes nothing.
 use Rattle.rules.specs.Kinds.{Arrival}
-use Rattle.std.specs.Prelude.{ℕ, ◌≤◌, ◌<◌, ◌≡◌, Bool, true, false, List, ◌∷◌, length, Result, Ok, Err}
+use Rattle.std.specs.Prelude.{ℕ, ◌≤◌, ◌<◌, ◌≡◌, List, ◌∷◌, length, Result, Ok, Err}
 use Rattle.tree.specs.declared.Tree.{Tree}
 use Rattle.tree.specs.declared.Refusal.{Refusal}
 use Rattle.tree.specs.Numbers.{number_of}
@@ -69,7 +69,3 @@ pub record ReceiveRefused (h : History) (j n : ℕ) (why : Refusal) (m l : List 
 abbrev pub ReceiveRight : History → (t j n : ℕ) → Arrival → (m l : List ℕ) → Type 0
 ReceiveRight h t j n (Ok number) m l = ReceiveAccepted h t j n number m l
 ReceiveRight h t j n (Err why) m l = ReceiveRefused h j n why m l
-
-abbrev pub is_accepted : Arrival → Bool
-is_accepted (Ok number) = true
-is_accepted (Err why) = false

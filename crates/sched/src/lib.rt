@@ -58,7 +58,8 @@ fn admit(words: &Words, class: u32, length: u32) -> Result<(), Refusal>
     if rules::ROOM <= get(words, leaf, NEXT_NUMBER) - get(words, leaf, HEAD_NUMBER) {
         return Err(Refusal::LeafFull);
     }
-    if rules::MOST_BYTES < header(words, ACCEPTED) + rules::weigh(length) {
+    let bytes = rules::weigh(length);
+    if rules::MOST_BYTES < header(words, ACCEPTED) + bytes {
         return Err(Refusal::BytesFull);
     }
     Ok(())
