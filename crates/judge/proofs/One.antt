@@ -7,7 +7,8 @@ use mathlib.Core.Bool.{Bool, true, false}
 use mathlib.Core.List.{List}
 use Rattle.tree.specs.declared.Tree.{Tree}
 use Rattle.tree.specs.declared.Refusal.{Refusal}
-use Rattle.tree.specs.Verdicts.{Verdict, all_right}
+use Rattle.std.specs.Prelude.{Ok, Err}
+use Rattle.tree.specs.Verdicts.{Verdict, all_right, refused as at_fault}
 use Rattle.rules.specs.Calls.{History}
 use Rattle.rules.specs.Lawful.{Lawful}
 use Rattle.rules.specs.Limits.{wheel}
@@ -51,17 +52,17 @@ judges_one law (short some few) (wrong found q e) = absurd (omega arith)
 judges_one law (short some few) (short some' few') = (refl, refl)
 
 is_refused : Verdict → Bool
-is_refused all_right = false
-is_refused (Verdict.Refused why class) = true
+is_refused (Ok _) = false
+is_refused (Err _) = true
 
-pub clash : {A : Type 0} {why : Refusal} {class : ℕ} → Verdict.Refused why class ≡ all_right → A
+pub clash : {A : Type 0} {why : Refusal} {class : ℕ} → at_fault why class ≡ all_right → A
 unfolding is_refused
 clash e = never refl (ap is_refused e)
 
 -- what a verdict on the tree is told as, where it decides
 abbrev pub told_of : Verdict → Judgement
-told_of all_right = Accepted
-told_of (Verdict.Refused why class) = TreeRefused why class
+told_of (Ok _) = Accepted
+told_of (Err fault) = TreeRefused fault.why fault.class
 
 -- the promise of judging a whole log
 pub judge_one : (tree : Tree) (first : ℕ) (log : List ℕ) (v w : Judgement) → first < wheel → LogJudged tree first log v → LogJudged tree first log w → v ≡ w

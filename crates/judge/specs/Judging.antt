@@ -1,10 +1,10 @@
 -- Request 4, "Judge the competitor's box from its log": a log replayed over document 01's definitions, record by record.
 -- Assumes nothing.
 use Rattle.rules.specs.Kinds.{Arrival, Departure}
-use Rattle.std.specs.Prelude.{ℕ, ◌+◌, ◌<◌, ◌≡◌, Bool, true, false, ◌&&◌, List, [], ◌∷◌, eqb, length, Some, None, Ok, Err}
+use Rattle.std.specs.Prelude.{ℕ, ◌+◌, ◌<◌, ◌≡◌, Bool, true, false, ◌&&◌, List, [], ◌∷◌, eqb, length, Option, Some, None, Ok, Err}
 use Rattle.tree.specs.declared.Tree.{Tree}
 use Rattle.tree.specs.declared.Refusal.{Refusal}
-use Rattle.tree.specs.Verdicts.{Verdict, all_right}
+use Rattle.tree.specs.Verdicts.{all_right, refused as at_fault}
 use Rattle.rules.specs.declared.Packet.{Packet}
 use Rattle.rules.specs.Calls.{History}
 use Rattle.rules.specs.Answers.{Starts, Arrives, Departs}
@@ -23,7 +23,7 @@ arrival_finding (Ok number) = Holds
 arrival_finding (Err why) = Refused why
 
 -- "every departure .. is the one our rules give, class and length both", or the record is "another choice"
-abbrev pub same_or : Bool → Departure → Finding
+abbrev pub same_or : Bool → Option Packet → Finding
 same_or true ours = Holds
 same_or false ours = Another ours
 
@@ -32,13 +32,13 @@ abbrev pub is_that : (class length : ℕ) → Packet → Bool
 is_that class length packet = eqb packet.class class && eqb packet.length length
 
 abbrev pub departure_finding : (class length : ℕ) → Departure → Finding
-departure_finding class length (Ok (Some packet)) = same_or (is_that class length packet) (Ok (Some packet))
-departure_finding class length (Ok None) = Another (Ok None)
+departure_finding class length (Ok (Some packet)) = same_or (is_that class length packet) (Some packet)
+departure_finding class length (Ok None) = Another None
 departure_finding class length (Err why) = Refused why
 
 -- "or empty answer is the one our rules give"
 abbrev pub empty_finding : Departure → Finding
-empty_finding (Ok (Some packet)) = Another (Ok (Some packet))
+empty_finding (Ok (Some packet)) = Another (Some packet)
 empty_finding (Ok None) = Holds
 empty_finding (Err why) = Refused why
 
@@ -90,6 +90,6 @@ pub data Judges : History → (k : ℕ) → (log : List ℕ) → Judgement → H
 -- "replayed from a given tree and first stamp"
 pub data LogJudged (tree : Tree) (first : ℕ) (log : List ℕ) : Judgement → Type 0 where
   -- "A tree that start refuses is answered with that refusal before any record is read."
-  refused : {why : Refusal} {class : ℕ} {start : History} → Starts tree first (Verdict.Refused why class) start → LogJudged tree first log (TreeRefused why class)
+  refused : {why : Refusal} {class : ℕ} {start : History} → Starts tree first (at_fault why class) start → LogJudged tree first log (TreeRefused why class)
   -- otherwise its records decide, numbered from 0
   replayed : {start next : History} {verdict : Judgement} → Starts tree first all_right start → Judges start 0 log verdict next → LogJudged tree first log verdict
