@@ -62,14 +62,14 @@ unfolding rule_of
 rule_back RealTime = refl
 rule_back Fair = refl
 
-times_of : List (List ℕ) → Times
+times_of : List (List ℕ) → Option Times
 times_of [] = Option.None
-times_of (w ∷ ws) = Some (record { eligible = (number ws 0); deadline = (number ws 2) })
+times_of (w ∷ ws) = Some (record { eligible = number ws 0; deadline = number ws 2 })
 
-times_back : (t : Times) → times_of (words_of_times t) ≡ t
+times_back : (t : Option Times) → times_of (words_of_times t) ≡ t
 unfolding times_of
 times_back Option.None = refl
-times_back (Some (record { eligible = eligible; deadline = deadline })) = simp read_back
+times_back (Some times) = simp read_back
 
 curve_of : List (List ℕ) → Curve
 curve_of ws =

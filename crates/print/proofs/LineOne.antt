@@ -28,9 +28,9 @@ plain_rule : (r : Rule) → every is_plain (word_of_rule r) ≡ true
 plain_rule RealTime = refl
 plain_rule Fair = refl
 
-plain_times : (t : Times) → plains (words_of_times t) ≡ true
+plain_times : (t : Option Times) → plains (words_of_times t) ≡ true
 plain_times Option.None = refl
-plain_times (Some (record { eligible = eligible; deadline = deadline })) = simp decimal_plain
+plain_times (Some times) = simp decimal_plain
 
 plain_curve : (k : Curve) → plains (words_of_curve k) ≡ true
 plain_curve None = refl

@@ -8,7 +8,6 @@ use Rattle.curve.specs.declared.Curve.{Curve}
 use Rattle.curve.specs.declared.Curve.TheVariants.{None, Straight, FrontLoaded, Delayed}
 use Rattle.tree.specs.declared.Tree.{Tree}
 use Rattle.tree.specs.Verdicts.{Verdict}
-use Rattle.tree.specs.declared.Verdict.TheVariants as verdict
 use Rattle.tree.specs.Numbers.{number_of}
 use Rattle.tree.specs.Trees.{most_classes, class_at}
 use Rattle.rules.specs.declared.Rule.{Rule}
@@ -26,9 +25,9 @@ word_of_rule RealTime = real_time_word
 word_of_rule Fair = fair_word
 
 -- "`eligible` and `deadline` stand there for a leaf with a real-time curve"
-abbrev pub words_of_times : Times → List (List ℕ)
+abbrev pub words_of_times : Option Times → List (List ℕ)
 words_of_times Option.None = []
-words_of_times (Some (record { eligible = eligible; deadline = deadline })) = eligible_word ∷ decimal eligible ∷ deadline_word ∷ decimal deadline ∷ []
+words_of_times (Some times) = eligible_word ∷ decimal times.eligible ∷ deadline_word ∷ decimal times.deadline ∷ []
 
 -- "The numbers after the kind are in the file's order: straight: rate; front-loaded: first rate, bend, last rate; delayed: bend, rate."
 abbrev pub words_of_curve : Curve → List (List ℕ)
@@ -94,8 +93,8 @@ tree_text t = line_of TreeHead ++ class_lines t 0 (min t.count most_classes)
 
 -- the answer that each call's answer is printed as: a refused start names a class, a refused arrival or departure none
 abbrev pub start_answer : Verdict → ℕ → Answer
-start_answer verdict.Right count = Started count
-start_answer (verdict.Refused why class) count = TreeRefused why class
+start_answer (Ok _) count = Started count
+start_answer (Err fault) count = TreeRefused fault.why fault.class
 
 abbrev pub arrival_answer : Arrival → Answer
 arrival_answer (Ok number) = Accepted number
