@@ -7,7 +7,7 @@ use crate::Curve;
 pub const KINDS: u32 = 4;
 
 // A kind and its numbers in the table's order, 0 where the kind has fewer.
-#[derive(Clone, Copy)]
+#[derive(Clone, Copy, PartialEq, Eq)]
 pub struct Code {
     pub kind: u32,
     pub first: u32,

@@ -17,10 +17,10 @@ pub const WHOLE: u32 = 65536;
 pub(crate) const BYTE: u64 = WHOLE as u64;
 
 // The latest bend, in ticks.
-pub const LATEST_BEND: u32 = 1048576;
+pub const LATEST_BEND: u32 = 1 << 20;
 
 // A real-time curve with its numbers: rates in parts, bends in ticks.
-#[derive(Clone, Copy)]
+#[derive(Clone, Copy, PartialEq, Eq)]
 pub enum Curve {
     None,
     Straight { rate: u32 },
@@ -30,7 +30,7 @@ pub enum Curve {
 
 // A piece of a leaf's or a class's history: the tick, or the mark, at which it starts, and the bytes
 // sent before.
-#[derive(Clone, Copy)]
+#[derive(Clone, Copy, PartialEq, Eq)]
 pub struct Piece {
     pub start: u64,
     pub sent: u64,
@@ -38,7 +38,7 @@ pub struct Piece {
 
 // The two pieces that stand for a whole list of them: the lowest on the curve's first slope and the
 // lowest on its last.
-#[derive(Clone, Copy)]
+#[derive(Clone, Copy, PartialEq, Eq)]
 pub struct Kept {
     pub steep: Piece,
     pub flat: Piece,

@@ -1,12 +1,12 @@
 -- What a test's answer tells, that a least number is one number, and the least number of two things.
 -- Assumes nothing.
 use Prim.Native.Nat.{ℕ, ◌≤◌, max}
-use mathlib.Core.Path.{◌≡◌, refl, subst}
+use mathlib.Core.Path.{◌≡◌, refl, sym, subst}
 use mathlib.Core.Bool.{Bool, true, false, not}
 use native.Mathlib.Nat.{le_antisymm}
 use native.Mathlib.Omega.{arith}
 use lib.Dec.{leb}
-use borrow.Author.Tests.{leb-true, leb-false}
+use borrow.Author.Tests.{le-leb, leb-true, leb-false}
 use Rattle.curve.specs.Answers.{Least, Exactly}
 
 -- the answer was true, or false
@@ -36,6 +36,10 @@ exactly_one false false P h k = refl
 pub exactly_iff : (b : Bool) {P Q : Type 0} → (P → Q) → (Q → P) → Exactly b P → Exactly b Q
 exactly_iff true f g h = f h
 exactly_iff false f g h = λ q. h (g q)
+
+-- a comparison that holds answers what holds
+pub tells_yes : (a b : ℕ) {P : Type 0} → a ≤ b → P → Exactly (leb a b) P
+tells_yes a b {P} h p = subst (λ t. Exactly t P) (sym (le-leb a b h)) p
 
 -- a comparison's answer says exactly whether it holds
 pub leb_exactly : (a : ℕ) {b x : ℕ} → b ≡ x → Exactly (leb a b) (a ≤ x)
