@@ -7,7 +7,8 @@ use super::entries::{Entry, next_entry};
 use super::words::word;
 use crate::Order;
 use crate::format::{HEADER, body_bytes};
-use curve::codec::{KINDS, decode};
+use curve::Curve;
+use curve::codec::Code;
 use tree::{Class, Tree};
 
 // A word of the body of an entry, by its number; 0 where the body has ended before it.
@@ -28,20 +29,19 @@ fn class_of(order: Order, file: &[u8], entry: Entry) -> Class
     requires { Lying file.now entry.offset entry.bytes }
     ensures { result ≡ class_from order file.now entry.offset entry.bytes }
 {
-    let kind = body_word(order, file, entry, 2);
-    if KINDS <= kind {
-        return tree::no_class();
-    }
-    if entry.bytes != body_bytes(kind) {
-        return tree::no_class();
-    }
-    let first = body_word(order, file, entry, 3);
-    let second = body_word(order, file, entry, 4);
-    let third = body_word(order, file, entry, 5);
-    Class {
-        parent: body_word(order, file, entry, 0),
-        share: body_word(order, file, entry, 1),
-        curve: decode(kind, first, second, third),
+    let code = Code {
+        kind: body_word(order, file, entry, 2),
+        first: body_word(order, file, entry, 3),
+        second: body_word(order, file, entry, 4),
+        third: body_word(order, file, entry, 5),
+    };
+    match Curve::try_from(code) {
+        Ok(curve) if entry.bytes == body_bytes(code.kind) => Class {
+            parent: body_word(order, file, entry, 0),
+            share: body_word(order, file, entry, 1),
+            curve,
+        },
+        _ => tree::no_class(),
     }
 }
 

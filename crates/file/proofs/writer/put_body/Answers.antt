@@ -25,7 +25,7 @@ pub loop-k-preserved : goal.loop-k-preserved
 loop-k-preserved c =
     let start = c.args in
     let loop = c.loop-k in
-    let words = code_words start.class c.encode-code.result in
+    let words = code_words start.class c.from-code.result in
     let room : loop.k < 6 = omega (arith, body_most start.class.curve) in (
       omega arith,
       omega arith,
@@ -42,8 +42,8 @@ returns c =
     let class = start.args.class in
     let body = start.args.body.now in
     let k = c.loop-k.k in
-    let words : take k (code_words class c.encode-code.result) ≡ body_words class =
-    words_room class c.encode-code.result k c.encode-code.ensures (omega (arith, body_length class)) in
+    let words : take k (code_words class c.from-code.result) ≡ body_words class =
+    words_room class c.from-code.result k c.from-code.ensures (omega (arith, body_length class)) in
     c.loop-k.invariant.2
     ∙ ap (λ (ws : List ℕ). sets body 0 (bytes_of Big ws)) words
     ∙ sets_all body (bytes_of Big (body_words class)) (omega (arith, length_bytes_of Big (body_words class), body_length class))
