@@ -8,7 +8,7 @@ use lib.Dec.{lit≤, lit<}
 use Rattle.curve.specs.Fit.{sum_of}
 use Rattle.curve.specs.declared.Curve.TheVariants.{Straight}
 use Rattle.curve.proofs.Laws.Limits.{straight_right}
-use Rattle.tree.specs.declared.Verdict.TheVariants.{Right}
+use Rattle.tree.specs.Verdicts.{all_right}
 use Rattle.tree.specs.Trees.{class_at, curves_of, curves_from, curve_below, SameTree}
 use Rattle.tree.specs.Rules.{RightTree}
 use Rattle.tree.proofs.Same.{same_right}
@@ -52,5 +52,5 @@ pub smallest_reads : SmallestReads
 unfolding file_in
 smallest_reads order =
     let file = file_in order smallest_tree in
-    let reads : ReadsAs file Right smallest_tree = record { judged = (reads_back order smallest_tree smallest_right).reads.judged; given = sym (says order) } in
-    subst (λ (ws : List ℕ). ReadsAs (bytes_of order ws) Right smallest_tree) smallest_words_lem reads
+    let reads : ReadsAs file all_right smallest_tree = record { judged = (reads_back order smallest_tree smallest_right).reads.judged; given = sym (says order) } in
+    subst (λ (ws : List ℕ). ReadsAs (bytes_of order ws) all_right smallest_tree) smallest_words_lem reads

@@ -14,8 +14,7 @@ use Rattle.tree.specs.Trees.{class_at, curve_of, curves_of, curves_from, curve_b
 use Rattle.tree.specs.Rules.{RightClass, RightTree, broken, kept}
 use Rattle.tree.specs.Numbers.{number_of}
 use Rattle.tree.specs.declared.Refusal.{Refusal}
-use Rattle.tree.specs.declared.Verdict.{Verdict}
-use Rattle.tree.specs.declared.Verdict.TheVariants.{Refused}
+use Rattle.tree.specs.Verdicts.{Verdict, refused}
 use Rattle.tree.proofs.Rule.{lowest_one}
 use Rattle.file.specs.Format.{order_of, entry_at, body_bytes, tree_of, HeaderChecks, BodyChecks, FileJudged}
 use Rattle.file.specs.Writing.{curve_bytes, body_place, total_bytes}
@@ -53,7 +52,7 @@ read_most file tree reads =
     omega (arith, right.total_right.total, total_is (order_of file) file refl right, total_within (tree_of file) tree-right (tree_of file).count refl)
 
 -- what a longer file is refused with
-refusal : {why : Refusal} {i : ℕ} (n : ℕ) → number_of why ≡ n → 2 ≤ n → n ≤ 7 → (n ≡ 7 → i ≡ 0) → LongRefusal (Refused why i)
+refusal : {why : Refusal} {i : ℕ} (n : ℕ) → number_of why ≡ n → 2 ≤ n → n ≤ 7 → (n ≡ 7 → i ≡ 0) → LongRefusal (refused why i)
 refusal {why} {i} n e least most root = record { why = why; class = i; is = refl; least = omega arith; most = omega arith; root = λ z. root (sym e ∙ z) }
 
 long_judged : (file : List ℕ) (v : Verdict) → most_file_bytes < length file → FileJudged file (length file) v → LongRefusal v

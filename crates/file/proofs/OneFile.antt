@@ -9,7 +9,7 @@ use native.Mathlib.Omega.{arith}
 use lib.ListN.{length, length-append}
 use Rattle.tree.specs.declared.Class.{Class}
 use Rattle.tree.specs.declared.Tree.{Tree}
-use Rattle.tree.specs.declared.Verdict.TheVariants.{Right}
+use Rattle.tree.specs.Verdicts.{all_right}
 use Rattle.tree.specs.Trees.{no_class, class_at, curve_of, SameTree}
 use Rattle.file.specs.declared.Order.{Order}
 use Rattle.file.specs.Format.{mark, version, word_at, order_of, word_of, version_of, count_of, total_of, entry_at, offset_of, length_of, start_of, body_word, kind_of, body_bytes, body_class, file_class, tree_of, RightKind, RightTotal, InPlace, SoundBody, HeaderChecks, BodyChecks, ReadsAs}
@@ -32,7 +32,7 @@ pub record Passed (file : List ℕ) : Type 0 where
   places : (i : ℕ) → i < count_of file → InPlace file i
   bodies : (i : ℕ) → i < count_of file → SoundBody file i
 
-pub passed : (file : List ℕ) (tree : Tree) → ReadsAs file Right tree → Passed file
+pub passed : (file : List ℕ) (tree : Tree) → ReadsAs file all_right tree → Passed file
 unfolding HeaderChecks BodyChecks
 passed file tree reads =
     let two = was_kept (was_kept reads.judged).1 in

@@ -1,13 +1,15 @@
 -- Reading names one answer: two readings that its promise allows of one file are equal.
 -- Assumes nothing.
 use Prim.Native.Nat.{ℕ}
-use mathlib.Core.Path.{◌≡◌, ◌∙◌, sym, ap}
+use mathlib.Core.Path.{◌≡◌, refl, ◌∙◌, sym, ap, ap₂}
 use mathlib.Core.List.{List}
+use Rattle.std.specs.Prelude.{Result, Ok, Err}
 use lib.ListN.{length}
 use Rattle.tree.proofs.Rule.{AtMostOne, rule_one, lowest_one, lowest_none, whole_one, whole_none}
-use Rattle.file.specs.Format.{HeaderChecks, BodyChecks, FileJudged, tree_of, tree_by, ReadsAs}
+use Rattle.file.specs.Format.{HeaderChecks, BodyChecks, FileJudged, tree_of, tree_by, ReadsAs, verdict_in, tree_in}
 use Rattle.file.specs.Fronts.{AtHand, EveryFile}
-use Rattle.file.specs.declared.Reading.{Reading}
+use Rattle.tree.specs.declared.Fault.{Fault}
+use Rattle.tree.specs.declared.Tree.{Tree}
 use Rattle.file.proofs.ReadLaws.Fronts.{front_some}
 
 -- one verdict
@@ -26,16 +28,25 @@ verdict_one bytes given =
     (rule_one (λ i. whole_none) (λ i j. whole_one)
     (λ v w e f. e ∙ sym f))))))))))
 
+-- an answer is named by its verdict and its tree
+abbrev answer_of : Result Unit Fault → Tree → Result Tree Fault
+answer_of (Ok _) tree = Ok tree
+answer_of (Err fault) tree = Err fault
+
+answer_is : (r : Result Tree Fault) → answer_of (verdict_in r) (tree_in r) ≡ r
+answer_is (Ok tree) = refl
+answer_is (Err fault) = refl
+
 -- and one tree with it
-pub read_one : (file : List ℕ) (r s : Reading) → ReadsAs file r.verdict r.tree → ReadsAs file s.verdict s.tree → r ≡ s
+pub read_one : (file : List ℕ) (r s : Result Tree Fault) → ReadsAs file (verdict_in r) (tree_in r) → ReadsAs file (verdict_in s) (tree_in s) → r ≡ s
 read_one file r s p q =
-    let same : r.verdict ≡ s.verdict = verdict_one file (length file) r.verdict s.verdict p.judged q.judged in
-    let tree : r.tree ≡ s.tree = p.given ∙ (ap (tree_by (tree_of file)) same ∙ sym q.given) in
-    λ i. record { verdict = same i; tree = tree i }
+    let same : verdict_in r ≡ verdict_in s = verdict_one file (length file) (verdict_in r) (verdict_in s) p.judged q.judged in
+    let tree : tree_in r ≡ tree_in s = p.given ∙ (ap (tree_by (tree_of file)) same ∙ sym q.given) in
+    sym (answer_is r) ∙ ap₂ answer_of same tree ∙ answer_is s
 
 -- so has reading by the bytes at hand: there is a file of which they are
-pub read_front_one : (bytes : List ℕ) (given : ℕ) → AtHand bytes given → (r s : Reading) → EveryFile bytes given (λ file. ReadsAs file r.verdict r.tree)
-    → EveryFile bytes given (λ file. ReadsAs file s.verdict s.tree) → r ≡ s
+pub read_front_one : (bytes : List ℕ) (given : ℕ) → AtHand bytes given → (r s : Result Tree Fault) → EveryFile bytes given (λ file. ReadsAs file (verdict_in r) (tree_in r))
+    → EveryFile bytes given (λ file. ReadsAs file (verdict_in s) (tree_in s)) → r ≡ s
 read_front_one bytes given hand r s p q =
     let some = front_some bytes given hand in
     read_one some.file r s (p some.file some.front) (q some.file some.front)

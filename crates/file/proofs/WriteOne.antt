@@ -7,8 +7,7 @@ use lib.ListN.{length}
 use Rattle.tree.specs.declared.Tree.{Tree}
 use Rattle.tree.proofs.Rule.{AtMostOne, rule_one, whole_one, whole_none}
 use Rattle.tree.proofs.Verdicts.{checked_one}
-use Rattle.file.specs.declared.writer.Written.{Written}
-use Rattle.file.specs.Writing.{WriteJudged, written_by, buffer_by, Writes}
+use Rattle.file.specs.Writing.{Written, WriteJudged, written_by, buffer_by, Writes}
 
 judged_one : (tree : Tree) (room : ℕ) → AtMostOne (WriteJudged tree room)
 judged_one tree room = checked_one tree _ (rule_one (λ i. whole_none) (λ i j. whole_one) (λ v w p q. p ∙ sym q))

@@ -1,7 +1,7 @@
 -- Document 01, "The class-tree file" and "Numbers of refusal": what a file says, and what it reads as.
 -- A file is the list of its bytes. The checks are over the bytes at hand and the number of bytes given, which of a whole file is its length.
 -- Assumes nothing.
-use Rattle.std.specs.Prelude.{ℕ, zero, suc, ◌+◌, ◌-◌, ◌*◌, ◌≤◌, ◌<◌, ◌≡◌, Bool, true, false, ◌&&◌, cond, List, [], ◌∷◌, ◌++◌, ◌⊎◌, length, get_or, replicate, ltb, eqb}
+use Rattle.std.specs.Prelude.{ℕ, zero, suc, ◌+◌, ◌-◌, ◌*◌, ◌≤◌, ◌<◌, ◌≡◌, Bool, true, false, ◌&&◌, cond, List, [], ◌∷◌, ◌++◌, ◌⊎◌, Result, Ok, Err, length, get_or, replicate, ltb, eqb}
 use Rattle.curve.specs.Curves.{Within}
 use Rattle.curve.specs.Fit.{CurvesFit}
 use Rattle.curve.specs.Codec.{kinds, kind_curve}
@@ -9,8 +9,8 @@ use Rattle.tree.specs.Rules.{RightClass, RightDepth, RightPlace, OfTree, OfClass
 use Rattle.tree.specs.Trees.{most_classes, no_class, empty_tree, curves_of}
 use Rattle.tree.specs.declared.Class.{Class}
 use Rattle.tree.specs.declared.Tree.{Tree}
-use Rattle.tree.specs.declared.Verdict.{Verdict}
-use Rattle.tree.specs.declared.Verdict.TheVariants.{Right, Refused}
+use Rattle.tree.specs.declared.Fault.{Fault}
+use Rattle.tree.specs.Verdicts.{Verdict, all_right}
 use Rattle.file.specs.declared.Order.{Order}
 use Rattle.file.specs.declared.Order.TheVariants.{Big, Little}
 
@@ -177,14 +177,23 @@ BodyChecks file Next =
     Next))))
 
 abbrev pub FileJudged : List ℕ → ℕ → Verdict → Type 0
-FileJudged bytes given = HeaderChecks bytes given (BodyChecks bytes (λ v. v ≡ Right))
+FileJudged bytes given = HeaderChecks bytes given (BodyChecks bytes (λ v. v ≡ all_right))
 
 -- the tree that is read with a verdict: the one that was judged, or, "A refusal gives a tree of no classes."
 abbrev pub tree_by : Tree → Verdict → Tree
-tree_by tree Right = tree
-tree_by tree (Refused why class) = empty_tree
+tree_by tree (Ok _) = tree
+tree_by tree (Err fault) = empty_tree
 
 -- what a file reads as
 pub record ReadsAs (file : List ℕ) (verdict : Verdict) (tree : Tree) : Type 0 where
   pub judged : FileJudged file (length file) verdict
   pub given : tree ≡ tree_by (tree_of file) verdict
+
+-- the verdict and the tree of an answer that is a tree or the fault: "A refusal gives a tree of no classes."
+abbrev pub verdict_in : Result Tree Fault → Verdict
+verdict_in (Ok tree) = all_right
+verdict_in (Err fault) = Err fault
+
+abbrev pub tree_in : Result Tree Fault → Tree
+tree_in (Ok tree) = tree
+tree_in (Err fault) = empty_tree

@@ -4,8 +4,7 @@ use Rattle.std.specs.Prelude.{ℕ, ◌+◌, ◌*◌, ◌≤◌, ◌≡◌, cond,
 use Rattle.tree.specs.Rules.{OfClasses, EveryClass}
 use Rattle.tree.specs.Trees.{most_classes, no_class}
 use Rattle.tree.specs.declared.Class.{Class}
-use Rattle.tree.specs.declared.Verdict.{Verdict}
-use Rattle.tree.specs.declared.Verdict.TheVariants.{Right}
+use Rattle.tree.specs.Verdicts.{Verdict, all_right}
 use Rattle.file.specs.Format.{word_at, order_of, count_of, RightTotal, RightLength, HeaderChecks, InPlace, right_kind}
 use Rattle.file.specs.Fronts.{Counts}
 use Rattle.curve.specs.Codec.{kind_curve}
@@ -20,9 +19,9 @@ pub record Opened (file : List ℕ) (given : ℕ) (order : Order) (count : ℕ) 
   pub within : Within 2 most_classes count
   pub right : RightTotal file given
 
--- the entry at a place of the contents: offset and length, and where the next one stands
+-- the entry at a place of the contents: offset and length
 unfoldable pub entry_of : List ℕ → Order → ℕ → Entry
-entry_of file order place = record { offset = word_at order file place; bytes = word_at order file (place + 4); next = place + 8 }
+entry_of file order place = record { offset = word_at order file place; bytes = word_at order file (place + 4) }
 
 -- a body by its entry: it starts where the one before ended, is as long as a body can be, and ends within the total
 pub record Fitting (offset bytes start total : ℕ) : Type 0 where
@@ -32,7 +31,7 @@ pub record Fitting (offset bytes start total : ℕ) : Type 0 where
 
 -- the verdict of the header's checks alone
 abbrev pub Passed : Verdict → Type 0
-Passed v = v ≡ Right
+Passed v = v ≡ all_right
 
 abbrev pub HeaderJudged : List ℕ → ℕ → Verdict → Type 0
 HeaderJudged file given = HeaderChecks file given Passed

@@ -1,15 +1,13 @@
 -- What is proved of files. Each statement stands here under a name; a comment names the law of proofs/ that proves it.
 -- Assumes nothing.
-use Rattle.std.specs.Prelude.{ℕ, ◌≤◌, ◌<◌, ◌≡◌, List, [], ◌∷◌, length, take}
+use Rattle.std.specs.Prelude.{ℕ, ◌≤◌, ◌<◌, ◌≡◌, List, [], ◌∷◌, Ok, length, take}
 use Rattle.tree.specs.declared.Tree.{Tree}
 use Rattle.tree.specs.declared.Refusal.{Refusal}
-use Rattle.tree.specs.declared.Verdict.{Verdict}
-use Rattle.tree.specs.declared.Verdict.TheVariants.{Right, Refused}
+use Rattle.tree.specs.Verdicts.{Verdict, all_right, refused}
 use Rattle.tree.specs.Numbers.{number_of}
 use Rattle.tree.specs.Trees.{SameTree}
 use Rattle.tree.specs.Rules.{RightTree}
 use Rattle.file.specs.declared.Order.{Order}
-use Rattle.file.specs.declared.writer.Written.{Written}
 use Rattle.file.specs.Format.{Marked, ReadsAs}
 use Rattle.file.specs.Fronts.{most_file_bytes}
 use Rattle.file.specs.Writing.{bytes_of, file_words, file_in, Writes}
@@ -23,7 +21,7 @@ AllBytes (b ∷ bs) = (b < 256) × AllBytes bs
 -- a file reads as a tree, which is the same as this one
 pub record ReadsBack (file : List ℕ) (tree : Tree) : Type 0 where
   pub read : Tree
-  pub reads : ReadsAs file Right read
+  pub reads : ReadsAs file all_right read
   pub same : SameTree tree read
 
 -- the file of a tree that keeps the rules reads back as the same tree, in either order: `reads_back`
@@ -32,16 +30,16 @@ FileReadsBack = (order : Order) (tree : Tree) → RightTree tree → ReadsBack (
 
 -- where bytes are written the tree is right, and the bytes read back as the same tree: `written_reads_back`
 abbrev pub WrittenReadsBack : Type 0
-WrittenReadsBack = (tree : Tree) (old : List ℕ) (n : ℕ) (new : List ℕ) → Writes tree old (Written.Bytes n) new → ReadsBack (take n new) tree
+WrittenReadsBack = (tree : Tree) (old : List ℕ) (n : ℕ) (new : List ℕ) → Writes tree old (Ok n) new → ReadsBack (take n new) tree
 
 -- a file of bytes with the mark in an order that reads as a tree is that tree's file in that order: `one_file`
 abbrev pub OneFile : Type 0
-OneFile = (order : Order) (file : List ℕ) (tree : Tree) → AllBytes file → Marked order file → ReadsAs file Right tree → file ≡ file_in order tree
+OneFile = (order : Order) (file : List ℕ) (tree : Tree) → AllBytes file → Marked order file → ReadsAs file all_right tree → file ≡ file_in order tree
 
 -- two files of bytes in one order that read as the same tree are one file: `files_one`
 abbrev pub FilesOne : Type 0
 FilesOne =
-    (order : Order) (f g : List ℕ) (t u : Tree) → AllBytes f → AllBytes g → Marked order f → Marked order g → ReadsAs f Right t → ReadsAs g Right u → SameTree t u → f ≡ g
+    (order : Order) (f g : List ℕ) (t u : Tree) → AllBytes f → AllBytes g → Marked order f → Marked order g → ReadsAs f all_right t → ReadsAs g all_right u → SameTree t u → f ≡ g
 
 -- no right tree's file is longer: `file_most`
 abbrev pub FileMost : Type 0
@@ -49,13 +47,13 @@ FileMost = (order : Order) (tree : Tree) → RightTree tree → length (file_in 
 
 -- no file that reads as a tree is longer: `read_most`
 abbrev pub ReadMost : Type 0
-ReadMost = (file : List ℕ) (tree : Tree) → ReadsAs file Right tree → length file ≤ most_file_bytes
+ReadMost = (file : List ℕ) (tree : Tree) → ReadsAs file all_right tree → length file ≤ most_file_bytes
 
 -- a refusal that a longer file can have: 2 to 6, or 7 at the root
 pub record LongRefusal (verdict : Verdict) : Type 0 where
   pub why : Refusal
   pub class : ℕ
-  pub is : verdict ≡ Refused why class
+  pub is : verdict ≡ refused why class
   pub least : 2 ≤ number_of why
   pub most : number_of why ≤ 7
   pub root : number_of why ≡ 7 → class ≡ 0
@@ -80,4 +78,4 @@ SmallestFile = file_words smallest_tree ≡ smallest_words
 
 -- and those words, as bytes in either order, read as that tree: `smallest_reads`
 abbrev pub SmallestReads : Type 0
-SmallestReads = (order : Order) → ReadsAs (bytes_of order smallest_words) Right smallest_tree
+SmallestReads = (order : Order) → ReadsAs (bytes_of order smallest_words) all_right smallest_tree

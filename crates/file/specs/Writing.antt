@@ -1,18 +1,17 @@
 -- Document 01, "The class-tree file": the one file of a tree in each order, as a list of bytes; and what writing it answers.
 -- Assumes nothing.
-use Rattle.std.specs.Prelude.{ℕ, zero, suc, ◌+◌, ◌/◌, ◌%◌, ◌≤◌, ◌≡◌, List, [], ◌∷◌, ◌++◌, length, drop}
+use Rattle.std.specs.Prelude.{ℕ, zero, suc, ◌+◌, ◌/◌, ◌%◌, ◌≤◌, ◌≡◌, List, [], ◌∷◌, ◌++◌, length, drop, Result, Ok, Err}
 use Rattle.curve.specs.declared.Curve.{Curve}
 use Rattle.curve.specs.Codec.{curve_kind, curve_numbers}
 use Rattle.tree.specs.declared.Class.{Class}
 use Rattle.tree.specs.declared.Tree.{Tree}
-use Rattle.tree.specs.declared.Verdict.{Verdict}
-use Rattle.tree.specs.declared.Verdict.TheVariants.{Right, Refused}
+use Rattle.tree.specs.declared.Fault.{Fault}
+use Rattle.tree.specs.Verdicts.{Verdict, all_right}
 use Rattle.tree.specs.Trees.{class_at, curve_of}
 use Rattle.tree.specs.Rules.{Checked, OfTree}
 use Rattle.file.specs.Format.{mark, version, entry_at, body_bytes}
 use Rattle.file.specs.declared.Order.{Order}
 use Rattle.file.specs.declared.Order.TheVariants.{Big, Little}
-use Rattle.file.specs.declared.writer.Written.{Written}
 
 -- "All fields are 32-bit words in the file's own order": a word's four bytes in an order
 unfoldable pub word_bytes : Order → ℕ → List ℕ
@@ -75,17 +74,21 @@ file_of tree = file_in Big tree
 
 -- "Writing checks 4, 7, 8, 9, 10, 17", and 17 is "writer's buffer too small", "0 for 17": the verdict with `room` bytes to write to
 abbrev pub WriteJudged : Tree → ℕ → Verdict → Type 0
-WriteJudged tree room = Checked tree (OfTree 17 (total_bytes tree ≤ room) (λ v. v ≡ Right))
+WriteJudged tree room = Checked tree (OfTree 17 (total_bytes tree ≤ room) (λ v. v ≡ all_right))
+
+-- what was written: so many bytes, or nothing, since the tree is refused for a class
+abbrev pub Written : Type 0
+Written = Result ℕ Fault
 
 -- the answer by the verdict
 abbrev pub written_by : Tree → Verdict → Written
-written_by tree Right = Written.Bytes (total_bytes tree)
-written_by tree (Refused why class) = Written.Refused why class
+written_by tree (Ok _) = Ok (total_bytes tree)
+written_by tree (Err fault) = Err fault
 
 -- the buffer by the verdict: "it writes the total and no byte beyond, and on refusal none"
 abbrev pub buffer_by : Tree → List ℕ → Verdict → List ℕ
-buffer_by tree old Right = file_of tree ++ drop (total_bytes tree) old
-buffer_by tree old (Refused why class) = old
+buffer_by tree old (Ok _) = file_of tree ++ drop (total_bytes tree) old
+buffer_by tree old (Err fault) = old
 
 -- what writing a tree to a buffer answers, and leaves in the buffer
 pub record Writes (tree : Tree) (old : List ℕ) (answer : Written) (new : List ℕ) : Type 0 where

@@ -1,5 +1,5 @@
 // Writing a class-tree file, always big-endian. `sets old at new` is a list with the elements of `new` from place `at` on.
-ghost use Rattle.std.specs.Prelude.{◌≡◌, ◌+◌, ◌≤◌, length};
+ghost use Rattle.std.specs.Prelude.{◌≡◌, ◌+◌, ◌*◌, ◌≤◌, length};
 ghost use Rattle.std.proofs.lemmas.List.Edits.{sets};
 ghost use Rattle.tree.specs.Trees.{curve_of};
 ghost use Rattle.tree.specs.Rules.{RightCount, RightTree};
@@ -9,24 +9,24 @@ ghost use Rattle.file.specs.Writing.{word_bytes, bytes_of, curve_bytes, body_wor
 use crate::Order;
 use crate::format::{MARK, VERSION, body_bytes, entry_at};
 use curve::codec::Code;
-use tree::{Class, Refusal, Tree, Verdict};
-
-// What was written: so many bytes, or nothing, since the tree is refused for a class.
-#[derive(Clone, Copy)]
-pub enum Written {
-    Bytes(u32),
-    Refused { why: Refusal, class: u32 },
-}
+use tree::{Class, Fault, Refusal, Tree};
 
 // A word, big end first, at a place of the buffer.
 fn put_word(out: &mut [u8], at: usize, word: u32)
     requires { at + 4 ≤ length out.old }
     ensures { out.new ≡ sets out.old at (word_bytes Order.Big word) }
 {
-    out[at] = (word / 16777216 % 256) as u8;
-    out[at + 1] = (word / 65536 % 256) as u8;
-    out[at + 2] = (word / 256 % 256) as u8;
-    out[at + 3] = (word % 256) as u8;
+    out[at..at + 4].copy_from_slice(&word.to_be_bytes());
+}
+
+// Words, one after another from a place of the buffer on.
+fn put_words(out: &mut [u8], at: usize, words: &[u32])
+    requires { at + 4 * length words.now ≤ length out.old }
+    ensures { out.new ≡ sets out.old at (bytes_of Order.Big words.now) }
+{
+    for (k, word) in words.iter().enumerate() {
+        put_word(out, at + 4 * k, *word);
+    }
 }
 
 // The body of a class, into its own part of the buffer: parent, share, kind, and the numbers that the part has room for.
@@ -43,11 +43,8 @@ fn put_body(body: &mut [u8], class: Class)
         code.second,
         code.third,
     ];
-    let mut k = 0;
-    while k < body.len() / 4 {
-        put_word(body, 4 * k, words[k]);
-        k += 1;
-    }
+    let room = body.len() / 4;
+    put_words(body, 0, &words[..room]);
 }
 
 // The bytes of the body of a class of a tree.
@@ -63,9 +60,8 @@ fn total_bytes(tree: Tree) -> u32
     requires { RightCount tree }
     ensures { result ≡ total_bytes tree }
 {
-    let count = tree.count;
-    let mut at = entry_at(count) as u32;
-    for i in 0..count {
+    let mut at = entry_at(tree.count) as u32;
+    for i in 0..tree.count {
         at += class_bytes(tree, i);
     }
     at
@@ -77,10 +73,7 @@ fn put_header(tree: Tree, total: u32, out: &mut [u8])
     requires header_bytes_in_bounds { header_bytes ≤ length out.old }
     ensures { out.new ≡ sets out.old 0 (bytes_of Order.Big (header_words tree)) }
 {
-    put_word(out, 0, MARK);
-    put_word(out, 4, VERSION);
-    put_word(out, 8, tree.count);
-    put_word(out, 12, total);
+    put_words(out, 0, &[MARK, VERSION, tree.count, total]);
 }
 
 // The contents, after the header: offset and length of each body.
@@ -89,13 +82,10 @@ fn put_contents(tree: Tree, out: &mut [u8])
     requires count_in_bounds { entry_at tree.count ≤ length out.old }
     ensures { out.new ≡ sets out.old header_bytes (bytes_of Order.Big (contents_words tree tree.count)) }
 {
-    let count = tree.count;
-    let mut at = entry_at(count) as u32;
-    for i in 0..count {
-        let entry = entry_at(i);
+    let mut at = entry_at(tree.count) as u32;
+    for i in 0..tree.count {
         let bytes = class_bytes(tree, i);
-        put_word(out, entry, at);
-        put_word(out, entry + 4, bytes);
+        put_words(out, entry_at(i), &[at, bytes]);
         at += bytes;
     }
 }
@@ -106,9 +96,8 @@ fn put_bodies(tree: Tree, out: &mut [u8])
     requires tree_in_bounds { total_bytes tree ≤ length out.old }
     ensures { out.new ≡ sets out.old (entry_at tree.count) (bytes_of Order.Big (bodies_words tree tree.count)) }
 {
-    let count = tree.count;
-    let mut at = entry_at(count);
-    for i in 0..count {
+    let mut at = entry_at(tree.count);
+    for i in 0..tree.count {
         let end = at + class_bytes(tree, i) as usize;
         put_body(&mut out[at..end], tree::class_at(tree, i));
         at = end;
@@ -116,32 +105,27 @@ fn put_bodies(tree: Tree, out: &mut [u8])
 }
 
 // The file of a right tree, or a refusal of a buffer that is too small for it.
-fn put_file(tree: Tree, out: &mut [u8]) -> Written
+fn put_file(tree: Tree, out: &mut [u8]) -> Result<u32, Fault>
     requires { RightTree tree }
     ensures { Writes tree out.old result out.new }
 {
     let total = total_bytes(tree);
     if out.len() < total as usize {
-        return Written::Refused {
+        return Err(Fault {
             why: Refusal::SmallBuffer,
             class: 0,
-        };
+        });
     }
     put_header(tree, total, out);
     put_contents(tree, out);
     put_bodies(tree, out);
-    Written::Bytes(total)
+    Ok(total)
 }
 
 // Writes a tree's file to the start of a buffer: every rule of the tree is checked, and then the room.
-pub fn write(tree: Tree, out: &mut [u8]) -> Written
+pub fn write(tree: Tree, out: &mut [u8]) -> Result<u32, Fault>
     ensures { Writes tree out.old result out.new }
 {
-    match tree::check(tree) {
-        Verdict::Refused { why, class } => Written::Refused {
-            why: why,
-            class: class,
-        },
-        Verdict::Right => put_file(tree, out),
-    }
+    tree::check(tree)?;
+    put_file(tree, out)
 }

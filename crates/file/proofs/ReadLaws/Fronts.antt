@@ -13,8 +13,7 @@ use Rattle.curve.proofs.Laws.Order.{le_or_lt}
 use Rattle.tree.specs.Rules.{RightClass, LowestFault, broken, kept}
 use Rattle.tree.specs.Trees.{most_classes}
 use Rattle.tree.specs.declared.Refusal.TheVariants.{WrongBody}
-use Rattle.tree.specs.declared.Verdict.{Verdict}
-use Rattle.tree.specs.declared.Verdict.TheVariants.{Right, Refused}
+use Rattle.tree.specs.Verdicts.{Verdict, all_right, refused}
 use Rattle.file.specs.Format.{byte_at, header_bytes, count_of, total_of, entry_at, length_of, end_of, start_of, body_class, SoundBody, HeaderChecks, BodyChecks}
 use Rattle.file.specs.Fronts.{most_file_bytes, most_seen, Counts, AtHand, Front, FrontSome}
 use Rattle.file.specs.Steps.{Passed, HeaderJudged, HeaderCounted, PlacesJudged, AllPlaced}
@@ -41,8 +40,8 @@ front_some bytes given (inr l) =
       front = record { first = sym (take-append_seam bytes rest); enough = inr l.0; counted = rw long refl };
     }
 
-module _ (bytes : List ℕ) (given : ℕ) (passed : HeaderCounted bytes given Right) where
-  stated_in : (long : ℕ) → HeaderJudged bytes long Right → total_of bytes ≡ long
+module _ (bytes : List ℕ) (given : ℕ) (passed : HeaderCounted bytes given all_right) where
+  stated_in : (long : ℕ) → HeaderJudged bytes long all_right → total_of bytes ≡ long
   unfolding HeaderChecks
   stated_in long (kept a (kept b (kept c (kept d (kept e p))))) = e.total
 
@@ -78,11 +77,11 @@ module _ (bytes : List ℕ) (given : ℕ) (file : List ℕ) (front : Front bytes
       (le_or_lt (entry_at most_classes) (length bytes))
 
   -- the number given is the file's length
-  pub length_front : HeaderCounted bytes given Right → given ≡ length file
+  pub length_front : HeaderCounted bytes given all_right → given ≡ length file
   length_front passed = omega (arith, given_less bytes given passed, front.counted)
 
   -- where all that is given is at hand, it is the file
-  pub whole_at_hand : HeaderCounted bytes given Right → given ≤ length bytes → bytes ≡ file
+  pub whole_at_hand : HeaderCounted bytes given all_right → given ≤ length bytes → bytes ≡ file
   whole_at_hand passed all =
       front.first ∙ take_all (length bytes) file (omega (arith, length_front passed, front.counted))
 
@@ -111,6 +110,6 @@ root_fault file few placed long = record {
 }
 
 -- and so 7 is its refusal
-pub too_long : (file : List ℕ) → Within 2 most_classes (count_of file) → AllPlaced file → most_file_bytes < total_of file → BodyChecks file Passed (Refused WrongBody 0)
+pub too_long : (file : List ℕ) → Within 2 most_classes (count_of file) → AllPlaced file → most_file_bytes < total_of file → BodyChecks file Passed (refused WrongBody 0)
 unfolding BodyChecks
 too_long file few placed long = kept placed (broken refl (root_fault file few placed long))

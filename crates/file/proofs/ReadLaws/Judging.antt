@@ -1,7 +1,7 @@
 -- The verdict on a file, put together: the header's checks, check 6, and the rules of the tree that the bodies say.
 -- Assumes nothing.
 use Prim.Native.Nat.{ℕ, zero, suc, ◌≤◌, ◌<◌}
-use mathlib.Core.Path.{◌≡◌, refl, ◌∙◌, sym, ap, subst, subst⁻¹}
+use mathlib.Core.Path.{◌≡◌, refl, ◌∙◌, ap, subst, subst⁻¹}
 use mathlib.Core.Bool.{Bool, true, false, cond}
 use mathlib.Core.List.{List, [], ◌∷◌}
 use mathlib.Core.Logic.{⊎_elim}
@@ -15,11 +15,9 @@ use Rattle.tree.specs.Rules.{RightClass, Checking, broken, kept, RightTree, Shap
 use Rattle.tree.specs.Rules as tree-rules
 use Rattle.tree.specs.Trees.{no_class, empty_tree, class_at}
 use Rattle.tree.specs.declared.Class.{Class}
-use Rattle.tree.specs.declared.Tree.{Tree}
 use Rattle.tree.specs.declared.Refusal.{Refusal}
-use Rattle.tree.specs.declared.Verdict.{Verdict}
-use Rattle.tree.specs.declared.Verdict.TheVariants.{Right, Refused}
-use Rattle.file.specs.Format.{header_bytes, order_of, count_of, length_of, kind_of, right_kind, body_class, file_class, first_classes, tree_of, SoundBody, HeaderChecks, BodyChecks, FileJudged, tree_by, ReadsAs}
+use Rattle.tree.specs.Verdicts.{Verdict, all_right, refused}
+use Rattle.file.specs.Format.{header_bytes, order_of, count_of, length_of, kind_of, right_kind, body_class, file_class, first_classes, tree_of, SoundBody, HeaderChecks, BodyChecks, FileJudged, ReadsAs}
 use Rattle.file.specs.Steps.{Opened, Passed, HeaderJudged, PlacesJudged, AllPlaced}
 use Rattle.file.specs.declared.Order.{Order}
 use Rattle.file.proofs.ReadLaws.Bodies.{first_length}
@@ -29,7 +27,7 @@ use Rattle.file.proofs.ReadLaws.KindTable.{kind_right, right_kind_lem}
 pub rule_next : {number : ℕ} {K : Type 0} {B : ℕ → Type 0} {N N' : Verdict → Type 0} {v : Verdict} → (N v → N' v) → Checking number K B N v → Checking number K B N' v
 rule_next n r = rule_map (λ x. x) (λ i x. x) (λ k. n) r
 
-refused_right : {why : Refusal} {i : ℕ} → Refused why i ≡ Right → ⊥
+refused_right : {why : Refusal} {i : ℕ} → refused why i ≡ all_right → ⊥
 refused_right e = let z : ◌≡◌ {A = ℕ} 0 1 = cc in omega arith
 
 -- no class is right: its share is 0
@@ -82,16 +80,16 @@ module _ (file : List ℕ) where
   bodies_judged v within placed (kept k rest) = kept placed (rule_map (every_map refl bodies_same) (lowest_map refl bodies_same) (λ every n. n) rest)
 
   -- the header's checks are passed, and the rest decides
-  pub header_passed : (given : ℕ) (Next : Verdict → Type 0) (v : Verdict) → HeaderJudged file given Right → Next v → HeaderChecks file given Next v
+  pub header_passed : (given : ℕ) (Next : Verdict → Type 0) (v : Verdict) → HeaderJudged file given all_right → Next v → HeaderChecks file given Next v
   unfolding HeaderChecks
   header_passed given Next v (kept a (kept b (kept c (kept d (kept e p))))) n = kept a (kept b (kept c (kept d (kept e n))))
 
   -- what a header that has passed says
-  pub header_long : (given : ℕ) → HeaderJudged file given Right → header_bytes ≤ given
+  pub header_long : (given : ℕ) → HeaderJudged file given all_right → header_bytes ≤ given
   unfolding HeaderChecks
   header_long given (kept a rest) = a
 
-  pub header_opened : (given : ℕ) {order : Order} {count : ℕ} → HeaderJudged file given Right → order ≡ order_of file → count ≡ count_of file → Opened file given order count
+  pub header_opened : (given : ℕ) {order : Order} {count : ℕ} → HeaderJudged file given all_right → order ≡ order_of file → count ≡ count_of file → Opened file given order count
   unfolding HeaderChecks
   header_opened given (kept a (kept b (kept c (kept d (kept e p))))) own counted = record {
     own = own;
@@ -101,26 +99,26 @@ module _ (file : List ℕ) where
   }
 
   -- the header is refused
-  pub header_refused : (given : ℕ) (Next : Verdict → Type 0) (why : Refusal) (i : ℕ) → HeaderJudged file given (Refused why i) → HeaderChecks file given Next (Refused why i)
+  pub header_refused : (given : ℕ) (Next : Verdict → Type 0) (why : Refusal) (i : ℕ) → HeaderJudged file given (refused why i) → HeaderChecks file given Next (refused why i)
   unfolding HeaderChecks
   header_refused given Next why i =
       rule_next (rule_next (rule_next (rule_next (rule_next (λ p. absurd (refused_right p))))))
 
   -- check 6 is passed
-  pub all_placed : PlacesJudged file Right → AllPlaced file
+  pub all_placed : PlacesJudged file all_right → AllPlaced file
   all_placed (kept every p) = every
 
   -- check 6 is not passed
-  pub places_refused : (why : Refusal) (i : ℕ) → PlacesJudged file (Refused why i) → BodyChecks file Passed (Refused why i)
+  pub places_refused : (why : Refusal) (i : ℕ) → PlacesJudged file (refused why i) → BodyChecks file Passed (refused why i)
   unfolding BodyChecks
   places_refused why i = rule_next (λ p. absurd (refused_right p))
 
   -- a refusal, with the tree of no classes
-  pub reads_refused : {why : Refusal} {i : ℕ} {v : Verdict} {t : Tree} → FileJudged file (length file) (Refused why i) → v ≡ Refused why i → t ≡ empty_tree → ReadsAs file v t
-  reads_refused judged is none = record { judged = subst⁻¹ (FileJudged file (length file)) is judged; given = none ∙ ap (tree_by (tree_of file)) (sym is) }
+  pub reads_refused : {why : Refusal} {i : ℕ} → FileJudged file (length file) (refused why i) → ReadsAs file (refused why i) empty_tree
+  reads_refused judged = record { judged = judged; given = refl }
 
   -- the tree of a file that is not refused is right
-  pub file_right : (given : ℕ) → FileJudged file given Right → RightTree (tree_of file)
+  pub file_right : (given : ℕ) → FileJudged file given all_right → RightTree (tree_of file)
   unfolding HeaderChecks BodyChecks tree_of
   file_right given (kept a (kept b (kept c (kept count (kept e (kept placed (kept sound (kept depths (kept places (kept fit p)))))))))) = record {
     shape = record { count = count; bodies = λ i h. sound_body i h (sound i h); depths = depths; places = places };

@@ -9,7 +9,7 @@ use native.Mathlib.Omega.{arith}
 use lib.Dec.{eqb, lit≤}
 use Rattle.curve.specs.Curves.{Within}
 use Rattle.tree.specs.Rules.{OfTree}
-use Rattle.tree.specs.declared.Verdict.{Verdict}
+use Rattle.tree.specs.Verdicts.{Verdict}
 use Rattle.file.specs.declared.Order.{Order}
 use Rattle.file.specs.declared.Order.TheVariants.{Big, Little}
 use Rattle.file.specs.Format.{byte_at, word_at, mark, Marked, order_if, order_of, word_of, header_bytes, version, version_of, count_of, total_of, entry_at, offset_of, length_of, start_of, RightLength, RightTotal, InPlace, HeaderChecks}

@@ -1,34 +1,29 @@
 // The contents entries, walked one after another over the lent file.
 ghost use Rattle.std.specs.Prelude.{◌≡◌, ◌+◌, ◌≤◌, length};
+ghost use Rattle.file.specs.Format.{word_at, order_of, header_bytes};
 ghost use Rattle.file.specs.Steps.{entry_of};
 
-use super::words::word;
+use super::words::{order_of, word};
 use crate::Order;
-use crate::format::ENTRY;
+use crate::format::{ENTRY, HEADER};
 
-// An entry of the contents: offset and length of a body, and where the next entry stands.
+// An entry of the contents: offset and length of a body.
 #[derive(Clone, Copy)]
 pub(crate) struct Entry {
     pub(crate) offset: u32,
     pub(crate) bytes: u32,
-    pub(crate) next: usize,
 }
 
-// The entry at a place.
-fn read_entry(file: &[u8], order: Order, place: usize) -> Entry
-    requires { place + 8 ≤ length file.now }
-    ensures { result ≡ entry_of file.now order place }
-{
-    let offset = word(order, file, place);
-    let bytes = word(order, file, place + 4);
-    Entry {
-        offset,
-        bytes,
-        next: place + ENTRY,
+impl Entry {
+    // Where the body ends.
+    pub(crate) fn end(self) -> usize
+        ensures { result ≡ self.offset + self.bytes }
+    {
+        self.offset as usize + self.bytes as usize
     }
 }
 
-// A reader of the contents: the lent file, its byte order, and the place of the next entry.
+// A reader: the lent file, its byte order, and the place of the next entry of the contents.
 #[derive(Clone, Copy)]
 pub(crate) struct Reader<'a> {
     pub(crate) file: &'a [u8],
@@ -36,25 +31,40 @@ pub(crate) struct Reader<'a> {
     pub(crate) place: usize,
 }
 
-// A reader that is set at a place.
-fn reader_at<'a>(file: &'a [u8], order: Order, place: usize) -> Reader<'a>
-    ensures { (result.file ≡ file.entry) × ((result.order ≡ order) × (result.place ≡ place)) }
-{
-    Reader { file, order, place }
-}
+impl<'a> Reader<'a> {
+    // A reader in the file's own order, which stands at the first entry.
+    pub(crate) fn new(file: &'a [u8]) -> Reader<'a>
+        requires { header_bytes ≤ length file.now }
+        ensures lent { result.file.now ≡ file.now }
+        ensures own { result.order ≡ order_of file.now }
+        ensures first { result.place ≡ header_bytes }
+    {
+        Reader {
+            file,
+            order: order_of(file),
+            place: HEADER,
+        }
+    }
 
-// The entry at the reader's place.
-fn entry_of<'a>(r: Reader<'a>) -> Entry
-    requires { r.place + 8 ≤ length r.file.now }
-    ensures { result ≡ entry_of r.entry.file.now r.entry.order r.entry.place }
-{
-    read_entry(r.file, r.order, r.place)
-}
+    // The word at a place.
+    pub(crate) fn word(&self, at: usize) -> u32
+        requires { at + 4 ≤ length self.now.file.now }
+        ensures { result ≡ word_at self.now.order self.now.file.now at }
+    {
+        word(self.order, self.file, at)
+    }
 
-// The entry at a place, by a reader that is set there. Whoever calls this has plain parameters, and no reader.
-pub(crate) fn next_entry(file: &[u8], order: Order, place: usize) -> Entry
-    requires { place + 8 ≤ length file.now }
-    ensures { result ≡ entry_of file.now order place }
-{
-    entry_of(reader_at(file, order, place))
+    // The entry at the reader's place, which goes on to the next.
+    pub(crate) fn next_entry(&mut self) -> Entry
+        requires { self.old.place + 8 ≤ length self.old.file.now }
+        ensures entry { result ≡ entry_of self.old.file.now self.old.order self.old.place }
+        ensures place { self.new.place ≡ self.old.place + 8 }
+        ensures order { self.new.order ≡ self.old.order }
+        ensures lent { self.new.file.now ≡ self.old.file.now }
+    {
+        let offset = self.word(self.place);
+        let bytes = self.word(self.place + 4);
+        self.place += ENTRY;
+        Entry { offset, bytes }
+    }
 }

@@ -1,48 +1,41 @@
 // The header and its checks.
 ghost use Rattle.std.specs.Prelude.{◌≡◌};
-ghost use Rattle.tree.specs.declared.Verdict.TheVariants.{Refused};
+ghost use Rattle.tree.specs.Verdicts.{refused};
 ghost use Rattle.file.specs.Fronts.{AtHand};
 ghost use Rattle.file.specs.Steps.{HeaderCounted};
 
-use super::words::{order_of, word};
+use super::entries::Reader;
 use crate::format::{HEADER, MARK, VERSION, entry_at};
-use tree::{Refusal, Verdict};
+use tree::{Fault, Refusal};
 
 // Checks 1 to 5, with the number of bytes given.
-pub(crate) fn header(front: &[u8], given: usize) -> Verdict
+pub(crate) fn header(front: &[u8], given: usize) -> Result<(), Fault>
     requires { AtHand front.now given }
     ensures { HeaderCounted front.now given result }
 {
     if given < HEADER {
         return whole(Refusal::ShortFile);
     }
-    let order = order_of(front);
-    if word(order, front, 0) != MARK {
+    let reader = Reader::new(front);
+    if reader.word(0) != MARK {
         return whole(Refusal::NoMark);
     }
-    if word(order, front, 4) != VERSION {
+    if reader.word(4) != VERSION {
         return whole(Refusal::OtherVersion);
     }
-    let count = word(order, front, 8);
-    if count < 2 {
+    let count = reader.word(8);
+    if count < 2 || tree::MOST_CLASSES < count {
         return whole(Refusal::WrongCount);
     }
-    if tree::MOST_CLASSES < count {
-        return whole(Refusal::WrongCount);
-    }
-    let total = word(order, front, 12);
-    if (total as usize) != given {
+    if reader.word(12) as usize != given || given < entry_at(count) {
         return whole(Refusal::WrongTotal);
     }
-    if given < entry_at(count) {
-        return whole(Refusal::WrongTotal);
-    }
-    Verdict::Right
+    Ok(())
 }
 
 // A refusal of the file as a whole names class 0.
-fn whole(why: Refusal) -> Verdict
-    ensures { result ≡ Refused why 0 }
+fn whole(why: Refusal) -> Result<(), Fault>
+    ensures { result ≡ refused why 0 }
 {
-    Verdict::Refused { why, class: 0 }
+    Err(Fault { why, class: 0 })
 }

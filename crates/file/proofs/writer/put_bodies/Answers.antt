@@ -2,12 +2,12 @@
 -- The measure is what is left of the count.
 -- Assumes nothing.
 use Prim.Native.Nat.{ℕ, ◌+◌, ◌≤◌, ◌<◌, ◌-◌}
-use mathlib.Core.Path.{◌≡◌, refl, sym, ap, ap₂, ◌∙◌}
+use mathlib.Core.Path.{◌≡◌, sym, ap, ap₂, ◌∙◌}
 use mathlib.Core.List.{List}
 use native.Mathlib.Omega.{arith}
 use native.Mathlib.Numerals.{add-one-le}
 use lib.ListN.{length}
-use lib.Seq.{sets, length-sets}
+use lib.Seq.{sets}
 use Rattle.tree.specs.declared.Class.{Class}
 use Rattle.tree.specs.Trees.{class_at, curve_of}
 use Rattle.file.specs.declared.Order.TheVariants.{Big}
@@ -34,7 +34,7 @@ pub loop-i-init : goal.loop-i-init
 loop-i-init c =
     let tree = c.args.tree in
     let out = c.args.out.now in
-    (omega arith, omega (arith, place_first tree), refl, no_word Big out (body_place tree 0) ∙ ap (λ (ws : List ℕ). sets out (body_place tree 0) (bytes_of Big ws)) (sym (numbered_none (λ (k : ℕ). body_words (class_at tree k)))))
+    (omega (arith, place_first tree), no_word Big out (body_place tree 0) ∙ ap (λ (ws : List ℕ). sets out (body_place tree 0) (bytes_of Big ws)) (sym (numbered_none (λ (k : ℕ). body_words (class_at tree k)))))
 
 pub overflow_add-end : goal.overflow_add-end
 overflow_add-end c =
@@ -58,12 +58,10 @@ loop-i-preserved c =
     sets_part loop.out loop.at (loop.at + bytes.result - loop.at) body.new.body
     (omega (arith, ap length body.ensures, length_bytes_of Big (body_words class.result), body_length class.result, part-long (goal.at.loop-i-preserved c).After-class_at))
     (omega (arith, part-within (goal.at.loop-i-preserved c).After-class_bytes)) in (
-      omega arith,
       omega (arith, place_next tree i),
-      ap length after ∙ length-sets loop.out loop.at body.new.body ∙ loop.invariant.2,
       words_on Big start.out.now (body_place tree 0) (bodies_words tree i) (body_words (class_at tree i)) loop.out _ loop.at
           (omega (arith, bodies_length tree i, place_first tree))
-          loop.invariant.3
+          loop.invariant.1
           (after ∙ ap (sets loop.out loop.at) (body.ensures ∙ ap (λ (k : Class). bytes_of Big (body_words k)) class.ensures))
           ∙ ap (λ (ws : List ℕ). sets start.out.now (body_place tree 0) (bytes_of Big ws)) (sym (numbered_next (λ (k : ℕ). body_words (class_at tree k)) i)),
     )
@@ -72,4 +70,4 @@ pub returns : goal.returns
 returns c =
     let start = c.args in
     let last : c.loop-i.i ≡ start.tree.count = omega arith in
-    c.loop-i.invariant.3 ∙ ap₂ (λ (at n : ℕ). sets start.out.now at (bytes_of Big (bodies_words start.tree n))) (place_first start.tree) last
+    c.loop-i.invariant.1 ∙ ap₂ (λ (at n : ℕ). sets start.out.now at (bytes_of Big (bodies_words start.tree n))) (place_first start.tree) last

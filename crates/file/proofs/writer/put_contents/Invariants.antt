@@ -1,13 +1,8 @@
-use Prim.Native.Nat.{◌≤◌, ◌-◌}
 use mathlib.Core.Path.{◌≡◌}
-use lib.ListN.{length}
 use lib.Seq.{sets}
 use Rattle.file.specs.declared.Order.TheVariants.{Big}
 use Rattle.file.specs.Writing.{bytes_of, body_place, contents_words}
 use Rattle.file.proofs.writer.put_contents.Given as goal
 
 abbrev pub invariant-loop-i : goal.invariant-loop-i
-invariant-loop-i l = (l.i ≤ l.count) × (l.at ≡ body_place l.tree l.i) × (length l.out ≡ length l.initial.out) × (l.out ≡ sets l.initial.out 16 (bytes_of Big (contents_words l.tree l.i)))
-
-abbrev pub decreases-loop-i : goal.decreases-loop-i
-decreases-loop-i l = l.count - l.i
+invariant-loop-i l = (l.at ≡ body_place l.tree l.i) × (l.out ≡ sets l.initial.out 16 (bytes_of Big (contents_words l.tree l.i)))

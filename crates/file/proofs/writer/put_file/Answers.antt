@@ -7,10 +7,10 @@ use mathlib.Core.List.{◌++◌}
 use native.Mathlib.Omega.{arith}
 use lib.ListN.{drop, length-append}
 use Rattle.tree.specs.declared.Refusal.TheVariants.{SmallBuffer}
-use Rattle.tree.specs.declared.Verdict.TheVariants.{Right, Refused}
+use Rattle.std.specs.Prelude.{Ok}
+use Rattle.tree.specs.Verdicts.{all_right, refused}
 use Rattle.tree.specs.Rules.Checking.{broken, kept}
 use Rattle.tree.proofs.Verdicts.{passes}
-use Rattle.file.specs.declared.writer.Written.{Written}
 use Rattle.file.specs.Format.{entry_at}
 use Rattle.file.specs.declared.Order.TheVariants.{Big}
 use Rattle.file.specs.Writing.{header_words, contents_words, bodies_words, file_words, file_in, file_of}
@@ -22,8 +22,8 @@ use Rattle.file.proofs.writer.put_file.Goals as goal
 pub returns-then-out-total : goal.returns-then-out-total
 returns-then-out-total c =
     record {
-      verdict = Refused SmallBuffer 0;
-      judged = passes _ _ (Refused SmallBuffer 0) (search rules) (broken refl (record { zero = refl; fault = λ room. omega arith }));
+      verdict = refused SmallBuffer 0;
+      judged = passes _ _ (refused SmallBuffer 0) (search rules) (broken refl (record { zero = refl; fault = λ room. omega arith }));
       answered = refl;
       buffer = refl;
     }
@@ -47,9 +47,9 @@ returns c =
     let contents = c.put_contents in
     let bodies = c.put_bodies in
     record {
-      verdict = Right;
-      judged = passes tree _ Right start.requires (kept (omega arith) refl);
-      answered = ap Written.Bytes total.ensures;
+      verdict = all_right;
+      judged = passes tree _ all_right start.requires (kept (omega arith) refl);
+      answered = ap Ok total.ensures;
       buffer =
           words_on Big old 0 (header_words tree ++ contents_words tree tree.count) (bodies_words tree tree.count) _ _ (entry_at tree.count)
           (simp length-append (omega (arith, contents_length tree tree.count)))

@@ -9,12 +9,12 @@ use Rattle.file.specs.Format.{body_bytes, RightKind, right_kind}
 use Rattle.file.specs.Steps.{word_from}
 use Rattle.file.proofs.ReadLaws.Bodies.{least_length, class_none, class_some}
 use Rattle.file.proofs.ReadLaws.KindTable.{wrong_kind, wrong_bytes, kind_right, curve_room}
-use Rattle.file.proofs.reader.bodies.class_of.Goals as goal
-use Rattle.file.proofs.reader.bodies.class_of.Goals.{After-body_word, in_default-via-in-Ok+else-entry-body_bytes, in_default-via-in_default}
+use Rattle.file.proofs.reader.entries.Reader.class_of.Goals as goal
+use Rattle.file.proofs.reader.entries.Reader.class_of.Goals.{After-body_word, in_default-via-in-Ok+else-entry-body_bytes, in_default-via-in_default}
 
 module _ (c : After-body_word) where
   abbrev kind : ℕ
-  kind = let a = c.args in word_from a.order a.file.now a.entry.offset 2
+  kind = let a = c.args in word_from a.self.now.order a.self.now.file.now a.entry.offset 2
 
   kind_is : c.body_word.result ≡ kind
   kind_is = c.body_word.ensures (least_length _ c.requires.long)
@@ -34,8 +34,8 @@ returns-in_default c =
 pub returns-in-Ok : goal.returns-in-Ok
 returns-in-Ok c =
     let read = (goal.at.returns-in-Ok c).After-body_word in
-    let file = c.args.file.now in
-    let order = c.args.order in
+    let file = c.args.self.now.file.now in
+    let order = c.args.self.now.order in
     let entry = c.args.entry in
     let k : RightKind (kind read) entry.bytes =
     record { known = omega (arith, kind_is read, c.in-Ok.ensures.0); long = c.if-entry-body_bytes.true ∙ c.body_bytes.ensures ∙ ap body_bytes (kind_is read) } in
