@@ -6,8 +6,8 @@ ghost use Rattle.std.specs.Prelude.{◌≡◌};
 ghost use Rattle.judgefile.specs.Promises.{LogJudgedByFile, judgement_number, judgement_numbers, ours_numbers, JudgeTold};
 
 use judge::Judgement;
-use rules::Departure;
-use tree::Verdict;
+use rules::Packet;
+use tree::Fault;
 
 // Judges the log over the tree of the file, from that first stamp. The answer is the number of the judgement, and `out` says
 // more of it.
@@ -23,12 +23,11 @@ pub fn judge_file(file: &[u8], first: u32, log: &[u32], out: &mut [u64; 4]) -> u
 fn judged(file: &[u8], first: u32, log: &[u32]) -> Judgement
     ensures { LogJudgedByFile file.now first log.now result }
 {
-    let reading = file::reader::read(file);
-    let verdict = reading.verdict;
-    if let Verdict::Refused { why, class } = verdict {
-        return Judgement::TreeRefused { why, class };
-    }
-    judge::judge(reading.tree, first, log)
+    let tree = match file::reader::read(file) {
+        Ok(tree) => tree,
+        Err(Fault { why, class }) => return Judgement::TreeRefused { why, class },
+    };
+    judge::judge(tree, first, log)
 }
 
 fn number(judgement: Judgement) -> u32
@@ -36,10 +35,10 @@ fn number(judgement: Judgement) -> u32
 {
     match judgement {
         Judgement::Accepted => 0,
-        Judgement::TreeRefused { why: _, class: _ } => 1,
-        Judgement::Malformed { record: _ } => 2,
-        Judgement::Refused { record: _, why: _ } => 3,
-        Judgement::AnotherChoice { record: _, ours: _ } => 4,
+        Judgement::TreeRefused { .. } => 1,
+        Judgement::Malformed { .. } => 2,
+        Judgement::Refused { .. } => 3,
+        Judgement::AnotherChoice { .. } => 4,
     }
 }
 
@@ -57,12 +56,11 @@ fn numbers(judgement: Judgement) -> [u64; 4]
 }
 
 // The record, and the packet that our rules send, if they send one.
-fn ours_numbers(record: u64, ours: Departure) -> [u64; 4]
+fn ours_numbers(record: u64, ours: Option<Packet>) -> [u64; 4]
     ensures { result ≡ ours_numbers «record» ours }
 {
     match ours {
-        Departure::Leaves { packet } => [record, 1, packet.class as u64, packet.length as u64],
-        Departure::NoneWaits => [record, 0, 0, 0],
-        Departure::Refused { why: _ } => [record, 0, 0, 0],
+        Some(packet) => [record, 1, packet.class as u64, packet.length as u64],
+        None => [record, 0, 0, 0],
     }
 }
