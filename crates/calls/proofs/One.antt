@@ -4,8 +4,7 @@ use Prim.Native.Nat.{ℕ}
 use mathlib.Core.Path.{◌≡◌}
 use mathlib.Core.List.{List}
 use Rattle.wording.proofs.One.{equation_one}
-use Rattle.calls.specs.declared.Line.{Line}
-use Rattle.calls.specs.Lines.{said}
+use Rattle.calls.specs.Lines.{Line, said}
 
 -- of a line read twice
 pub parse_one : (line : List ℕ) (a b : Line) → a ≡ said line → b ≡ said line → a ≡ b

@@ -3,103 +3,78 @@
 #![tactic(auto)]
 
 ghost use Rattle.std.specs.Prelude.{◌≡◌};
-ghost use Rattle.calls.specs.Lines.{said, call_in, call_of, arrive_of, arrive_in};
+ghost use Rattle.calls.specs.Lines.{said, call_in, arrive_in, error_of};
 
-use wording::{Operand, behind, is, is_number, number, only, uncomment, word};
+use wording::{NumberError, behind, is, is_number, number, only, uncomment, word};
 
-// What a line says.
+// A call with its numbers.
 #[derive(Clone, Copy)]
-pub enum Line {
+pub enum Call {
     Start { stamp: u32 },
     Arrive { stamp: u32, class: u32, length: u32 },
     Depart { stamp: u32 },
-    Nothing,
+}
+
+// Why a line is no call: a number is past 32 bits, or the form is wrong.
+#[derive(Clone, Copy, PartialEq, Eq)]
+pub enum LineError {
     TooLarge,
     NotACall,
 }
 
-// What a line says, without the end of line.
-pub fn parse(line: &[u8]) -> Line
+impl From<NumberError> for LineError {
+    ghost from_gives = { λ number line. line ≡ error_of number };
+
+    fn from(error: NumberError) -> LineError {
+        match error {
+            NumberError::TooLarge => LineError::TooLarge,
+            NumberError::NotANumber => LineError::NotACall,
+        }
+    }
+}
+
+// What a line says, without the end of line: a call, or nothing.
+#[tactic(auto, unfolding(crate::specs::Lines::said))]
+pub fn parse(line: &[u8]) -> Result<Option<Call>, LineError>
     ensures { result ≡ said line.now }
 {
     call_in(uncomment(line))
 }
 
-fn call_in(text: &[u8]) -> Line
+#[tactic(auto, using(crate::proofs::Named::call_by))]
+fn call_in(text: &[u8]) -> Result<Option<Call>, LineError>
     ensures { result ≡ call_in text.now }
 {
     let name = word(text);
-    if name.len() == 0 {
-        return Line::Nothing;
-    }
-    if is(name, b"start") {
-        return start(only(behind(text)));
-    }
-    if is(name, b"arrive") {
-        return arrive(behind(text));
-    }
-    if is(name, b"depart") {
-        return depart(only(behind(text)));
-    }
-    Line::NotACall
-}
-
-fn start(stamp: Operand) -> Line
-    ensures { result ≡ call_of Line.Start stamp }
-{
-    match stamp {
-        Operand::Of(stamp) => Line::Start { stamp },
-        Operand::TooLarge => Line::TooLarge,
-        Operand::NotANumber => Line::NotACall,
+    let rest = behind(text);
+    if name.is_empty() {
+        Ok(None)
+    } else if is(name, b"start") {
+        Ok(Some(Call::Start { stamp: only(rest)? }))
+    } else if is(name, b"arrive") {
+        arrive(rest)
+    } else if is(name, b"depart") {
+        Ok(Some(Call::Depart { stamp: only(rest)? }))
+    } else {
+        Err(LineError::NotACall)
     }
 }
 
-fn depart(stamp: Operand) -> Line
-    ensures { result ≡ call_of Line.Depart stamp }
-{
-    match stamp {
-        Operand::Of(stamp) => Line::Depart { stamp },
-        Operand::TooLarge => Line::TooLarge,
-        Operand::NotANumber => Line::NotACall,
-    }
-}
-
-// `arrive` with its operands.
-fn arrive(text: &[u8]) -> Line
+// `arrive` with its operands. The form is judged before the sizes.
+#[tactic(auto, unfolding(crate::specs::Lines::arrive_in))]
+fn arrive(text: &[u8]) -> Result<Option<Call>, LineError>
     ensures { result ≡ arrive_in text.now }
 {
     let second = behind(text);
     let stamp = number(word(text));
     let class = number(word(second));
     let length = only(behind(second));
-    arrival(stamp, class, length)
-}
-
-// The form is judged before the sizes.
-fn arrival(stamp: Operand, class: Operand, length: Operand) -> Line
-    ensures { result ≡ arrive_of stamp class length }
-{
-    if !is_number(stamp) {
-        return Line::NotACall;
+    if !(is_number(stamp) && is_number(class) && is_number(length)) {
+        return Err(LineError::NotACall);
     }
-    if !is_number(class) {
-        return Line::NotACall;
-    }
-    if !is_number(length) {
-        return Line::NotACall;
-    }
-    let Operand::Of(stamp) = stamp else {
-        return Line::TooLarge;
-    };
-    let Operand::Of(class) = class else {
-        return Line::TooLarge;
-    };
-    let Operand::Of(length) = length else {
-        return Line::TooLarge;
-    };
-    Line::Arrive {
-        stamp,
-        class,
-        length,
-    }
+    Ok(Some(Call::Arrive {
+        stamp: stamp?,
+        class: class?,
+        length: length?,
+    }))
 }

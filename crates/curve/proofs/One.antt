@@ -2,7 +2,8 @@
 -- stands in the function's head.
 -- Assumes nothing.
 use Prim.Native.Nat.{ℕ}
-use mathlib.Core.Path.{◌≡◌, sym, ◌∙◌}
+use mathlib.Core.Path.{◌≡◌, refl, sym, ap, ◌∙◌}
+use native.Mathlib.Omega.{arith}
 use mathlib.Core.Bool.{Bool}
 use mathlib.Core.List.{List}
 use Rattle.curve.specs.Curves.{RightCurve}
@@ -13,7 +14,10 @@ use Rattle.curve.specs.declared.Curve.{Curve}
 use Rattle.curve.specs.declared.Piece.{Piece}
 use Rattle.curve.specs.declared.Kept.{Kept}
 use Rattle.curve.specs.declared.codec.Code.{Code}
+use Rattle.curve.specs.declared.codec.UnknownKind.{UnknownKind}
+use Rattle.std.specs.Prelude.{Result, Ok, Err}
 use Rattle.curve.proofs.Laws.Answers.{exactly_one, least_one}
+use Rattle.curve.proofs.Laws.Codec.{said_code, code_kind, kind_known}
 
 pub right_one : (S : Curve) (r s : Bool) → TellsRight S r → TellsRight S s → r ≡ s
 right_one S r s = exactly_one r s (RightCurve S)
@@ -24,8 +28,17 @@ fits_one Ss r s = exactly_one r s (CurvesFit Ss)
 pub encode_one : (S : Curve) (r s : Code) → Encodes S r → Encodes S s → r ≡ s
 encode_one S r s h k = h ∙ sym k
 
-pub decode_one : (kind x y z : ℕ) (r s : Curve) → Decodes kind x y z r → Decodes kind x y z s → r ≡ s
-decode_one kind x y z r s h k = h ∙ sym k
+pub decode_one : (c : Code) (r s : Result Curve UnknownKind) → Decodes c r → Decodes c s → r ≡ s
+decode_one c (Ok S) (Ok S') h k = ap Ok (h.1 ∙ sym k.1)
+decode_one c (Ok S) (Err e) h k = absurd (omega arith)
+decode_one c (Err e) (Ok S) h k = absurd (omega arith)
+decode_one c (Err e) (Err e') h k = refl
+
+-- and what is encoded decodes as the same curve
+pub decoded_back : (S : Curve) (c : Code) (r : Result Curve UnknownKind) → Encodes S c → Decodes c r → r ≡ Ok S
+decoded_back S c r h k =
+    let said : Decodes c (Ok S) = rw h (rw (code_kind S) (kind_known S), sym (said_code S)) in
+    decode_one c r (Ok S) k said
 
 pub is_undelayed_one : (S : Curve) (r s : Bool) → TellsUndelayed S r → TellsUndelayed S s → r ≡ s
 is_undelayed_one S r s = exactly_one r s (early S ≡ S)

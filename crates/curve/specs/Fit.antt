@@ -1,6 +1,6 @@
 -- Document 01, "Curves": when real-time curves fit the link; and the test of it at the bends and the last slopes.
 -- Assumes nothing.
-use Rattle.std.specs.Prelude.{ℕ, ◌+◌, ◌≤◌, List, [], ◌∷◌}
+use Rattle.std.specs.Prelude.{ℕ, ◌≡◌, ◌+◌, ◌≤◌, List, [], ◌∷◌}
 use Rattle.curve.specs.Curves.{amount, in_parts, last_slope}
 use Rattle.curve.specs.declared.Curve.{Curve}
 
@@ -8,6 +8,10 @@ use Rattle.curve.specs.declared.Curve.{Curve}
 unfoldable pub sum_of : (Curve → ℕ) → List Curve → ℕ
 sum_of f [] = 0
 sum_of f (S ∷ Ss) = f S + sum_of f Ss
+
+-- a calculation that gives each curve's number, and no other
+abbrev pub WorksOut : (Curve → ℕ → Type 0) → (Curve → ℕ) → Type 0
+WorksOut gives f = (S : Curve) (n : ℕ) → gives S n → n ≡ f S
 
 -- "the sum of all S(t)"
 abbrev pub total : List Curve → ℕ → ℕ

@@ -1,8 +1,8 @@
 -- What the functions of this layer promise to the layers above: the names that stand in their heads, and that the theorems of proofs/One are about.
 -- Assumes nothing.
-use Rattle.std.specs.Prelude.{ℕ, Bool, List, ◌≡◌}
+use Rattle.std.specs.Prelude.{ℕ, ◌≤◌, ◌<◌, Bool, List, ◌≡◌, Result, Ok, Err}
 use Rattle.curve.specs.Answers.{Least, Exactly}
-use Rattle.curve.specs.Codec.{code_of, kind_curve}
+use Rattle.curve.specs.Codec.{kinds, code_of, curve_said}
 use Rattle.curve.specs.Curves.{RightCurve}
 use Rattle.curve.specs.Fit.{CurvesFit}
 use Rattle.curve.specs.Keeping.{lower_of, kept_with, Stands, BothStand, early}
@@ -10,6 +10,7 @@ use Rattle.curve.specs.declared.Curve.{Curve}
 use Rattle.curve.specs.declared.Piece.{Piece}
 use Rattle.curve.specs.declared.Kept.{Kept}
 use Rattle.curve.specs.declared.codec.Code.{Code}
+use Rattle.curve.specs.declared.codec.UnknownKind.{UnknownKind}
 
 -- `right`: true exactly if the curve's numbers are within the limits
 abbrev pub TellsRight : Curve → Bool → Type 0
@@ -19,13 +20,14 @@ TellsRight S r = Exactly r (RightCurve S)
 abbrev pub TellsFit : List Curve → Bool → Type 0
 TellsFit Ss r = Exactly r (CurvesFit Ss)
 
--- `encode`: the curve's kind and its numbers
+-- `Code::from`: the curve's kind and its numbers
 abbrev pub Encodes : Curve → Code → Type 0
 Encodes S r = r ≡ code_of S
 
--- `decode`: the curve of a kind and three numbers
-abbrev pub Decodes : ℕ → ℕ → ℕ → ℕ → Curve → Type 0
-Decodes kind x y z r = r ≡ kind_curve kind x y z
+-- `Curve::try_from`: the curve of a kind of the table and three numbers, or that the table has no such kind
+abbrev pub Decodes : Code → Result Curve UnknownKind → Type 0
+Decodes c (Ok S) = (c.kind < kinds) × (S ≡ curve_said c)
+Decodes c (Err e) = kinds ≤ c.kind
 
 -- `is_undelayed`: true exactly if the eligible time goes by the curve as it is
 abbrev pub TellsUndelayed : Curve → Bool → Type 0

@@ -7,7 +7,7 @@ use crate::Curve;
 pub const KINDS: u32 = 4;
 
 // A kind and its numbers in the table's order, 0 where the kind has fewer.
-#[derive(Clone, Copy)]
+#[derive(Clone, Copy, PartialEq, Eq)]
 pub struct Code {
     pub kind: u32,
     pub first: u32,
@@ -15,53 +15,52 @@ pub struct Code {
     pub third: u32,
 }
 
-// The kind and the numbers of a curve.
-pub fn encode(curve: Curve) -> Code
-    ensures { Encodes curve result }
-{
-    match curve {
-        Curve::None => Code {
-            kind: 0,
-            first: 0,
-            second: 0,
-            third: 0,
-        },
-        Curve::Straight { rate } => Code {
-            kind: 1,
-            first: rate,
-            second: 0,
-            third: 0,
-        },
-        Curve::FrontLoaded { first, bend, last } => Code {
-            kind: 2,
+// The table has no such kind.
+#[derive(Clone, Copy, PartialEq, Eq)]
+pub struct UnknownKind;
+
+impl From<Curve> for Code {
+    ghost from_gives = { Encodes };
+
+    // The kind and the numbers of a curve.
+    #[tactic(auto, unfolding(crate::specs::Codec::code_of))]
+    fn from(curve: Curve) -> Code {
+        let (kind, first, second, third) = match curve {
+            Curve::None => (0, 0, 0, 0),
+            Curve::Straight { rate } => (1, rate, 0, 0),
+            Curve::FrontLoaded { first, bend, last } => (2, first, bend, last),
+            Curve::Delayed { bend, rate } => (3, bend, rate, 0),
+        };
+        Code {
+            kind,
             first,
-            second: bend,
-            third: last,
-        },
-        Curve::Delayed { bend, rate } => Code {
-            kind: 3,
-            first: bend,
-            second: rate,
-            third: 0,
-        },
+            second,
+            third,
+        }
     }
 }
 
-// The curve of a kind with its numbers; none where the kind is unknown.
-pub fn decode(kind: u32, first: u32, second: u32, third: u32) -> Curve
-    ensures { Decodes kind first second third result }
-{
-    match kind {
-        1 => Curve::Straight { rate: first },
-        2 => Curve::FrontLoaded {
-            first,
-            bend: second,
-            last: third,
-        },
-        3 => Curve::Delayed {
-            bend: first,
-            rate: second,
-        },
-        _ => Curve::None,
+impl TryFrom<Code> for Curve {
+    type Error = UnknownKind;
+
+    ghost try_from_gives = { Decodes };
+
+    // The curve of a kind with its numbers; a kind that has fewer leaves the others unread.
+    #[tactic(auto, unfolding(crate::specs::Codec::kind_curve))]
+    fn try_from(code: Code) -> Result<Curve, UnknownKind> {
+        match code.kind {
+            0 => Ok(Curve::None),
+            1 => Ok(Curve::Straight { rate: code.first }),
+            2 => Ok(Curve::FrontLoaded {
+                first: code.first,
+                bend: code.second,
+                last: code.third,
+            }),
+            3 => Ok(Curve::Delayed {
+                bend: code.first,
+                rate: code.second,
+            }),
+            _ => Err(UnknownKind),
+        }
     }
 }

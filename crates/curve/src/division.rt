@@ -2,9 +2,8 @@
 // the number of steps does not depend on the numbers.
 ghost use Rattle.std.specs.Prelude.{◌*◌, ◌≤◌};
 ghost use Rattle.curve.specs.Answers.{Least};
-ghost use Rattle.curve.specs.Curves.{RightRate, RightFront, RightDelay, Rising, in_parts};
+ghost use Rattle.curve.specs.Curves.{RightRate, Rising, in_parts};
 ghost use Rattle.curve.specs.Keeping.{Reaches, most_bytes};
-ghost use Rattle.curve.specs.declared.Curve.TheVariants.{FrontLoaded, Delayed};
 
 use crate::Curve;
 
@@ -13,42 +12,31 @@ fn rise_time(rate: u32, parts: u64) -> u64
     requires { RightRate rate × (parts ≤ in_parts most_bytes) }
     ensures { Least (λ t. parts ≤ rate * t) result }
 {
-    let by = rate as u64;
-    (parts + (by - 1)) / by
+    parts.div_ceil(u64::from(rate))
 }
 
-// A front-loaded curve: on its first slope as far as it has risen at the bend, and past it on its last.
-fn front_time(first: u32, bend: u32, last: u32, parts: u64) -> u64
-    requires { RightFront first bend last × (parts ≤ in_parts most_bytes) }
-    ensures { Least (Reaches (FrontLoaded first bend last) parts) result }
-{
-    let turn = first as u64 * bend as u64;
-    if parts <= turn {
-        return rise_time(first, parts);
-    }
-    bend as u64 + rise_time(last, parts - turn)
-}
-
-// A delayed curve: where no parts are asked for it has them at once, and others past the bend.
-fn delayed_time(bend: u32, rate: u32, parts: u64) -> u64
-    requires { RightDelay bend rate × (parts ≤ in_parts most_bytes) }
-    ensures { Least (Reaches (Delayed bend rate) parts) result }
-{
-    if parts == 0 {
-        return 0;
-    }
-    bend as u64 + rise_time(rate, parts)
-}
-
-// The earliest tick at which the curve has reached the parts. Where there is no curve it is not asked.
-pub(crate) fn earliest(curve: Curve, parts: u64) -> u64
-    requires { Rising curve × (parts ≤ in_parts most_bytes) }
-    ensures { Least (Reaches curve parts) result }
-{
-    match curve {
-        Curve::None => 0,
-        Curve::Straight { rate } => rise_time(rate, parts),
-        Curve::FrontLoaded { first, bend, last } => front_time(first, bend, last, parts),
-        Curve::Delayed { bend, rate } => delayed_time(bend, rate, parts),
+impl Curve {
+    // The earliest tick at which the curve has reached the parts. Where there is no curve it is not asked.
+    #[tactic(auto, unfolding(crate::specs::Curves::Rising))]
+    pub(crate) fn earliest(self, parts: u64) -> u64
+        requires { Rising self × (parts ≤ in_parts most_bytes) }
+        ensures { Least (Reaches self parts) result }
+    {
+        match self {
+            Curve::None => 0,
+            Curve::Straight { rate } => rise_time(rate, parts),
+            // On its first slope as far as it has risen at the bend, and past it on its last.
+            Curve::FrontLoaded { first, bend, last } => {
+                let turn = u64::from(first) * u64::from(bend);
+                if parts <= turn {
+                    rise_time(first, parts)
+                } else {
+                    u64::from(bend) + rise_time(last, parts - turn)
+                }
+            }
+            // Where no parts are asked for it has them at once, and others past the bend.
+            Curve::Delayed { .. } if parts == 0 => 0,
+            Curve::Delayed { bend, rate } => u64::from(bend) + rise_time(rate, parts),
+        }
     }
 }

@@ -1,75 +1,54 @@
 // Whether curves fit the link.
-ghost use Rattle.std.specs.Prelude.{◌≡◌, ◌*◌, ◌-◌, ◌≤◌, ◌<◌};
+ghost use Rattle.std.specs.Prelude.{◌≡◌, ◌≤◌};
 ghost use Rattle.curve.specs.Answers.{Exactly};
-ghost use Rattle.curve.specs.Curves.{whole, amount, in_parts, bend_of};
-ghost use Rattle.curve.specs.Fit.{total, slopes};
+ghost use Rattle.curve.specs.Curves.{whole, in_parts, bend_of};
+ghost use Rattle.curve.specs.Fit.{WorksOut, sum_of, total, slopes};
 ghost use Rattle.curve.specs.Promises.{TellsFit};
 
-use crate::amounts::{last_slope, reached};
-use crate::{BYTE, Curve, WHOLE};
+use crate::{BYTE, Curve};
 
 // How many curves are tested together. Where there are fewer the rest are none.
 pub const CURVES: usize = 64;
 
-// The tick at which the curve's slope changes, or 0.
-fn bend_of(curve: Curve) -> u32
-    ensures { result ≡ bend_of curve }
-{
-    match curve {
-        Curve::None => 0,
-        Curve::Straight { rate: _ } => 0,
-        Curve::FrontLoaded {
-            first: _,
-            bend,
-            last: _,
-        } => bend,
-        Curve::Delayed { bend, rate: _ } => bend,
+impl Curve {
+    // The tick at which the curve's slope changes, or 0.
+    fn bend(self) -> u32
+        ensures { result ≡ bend_of self }
+    {
+        match self {
+            Curve::None | Curve::Straight { .. } => 0,
+            Curve::FrontLoaded { bend, .. } | Curve::Delayed { bend, .. } => bend,
+        }
     }
 }
 
-// The parts that any curve has reached at a tick of 32 bits: 64 bits hold them.
-fn reached_by(curve: Curve, tick: u32) -> u64
-    ensures { result ≡ amount curve tick }
+// Whether the sum of a number that each curve has is at most that.
+fn sum_fits<F: Fn(Curve) -> u64>(curves: &[Curve; CURVES], most: u64, number: F) -> bool
+    requires { F.IsAlwaysCallable number }
+    ensures { (f : _) → WorksOut (F.post number) f → Exactly result (sum_of f curves.now ≤ most) }
 {
-    let at = tick as u64;
-    match curve {
-        Curve::None => 0,
-        Curve::Straight { rate } => reached(Curve::Straight { rate }, at),
-        Curve::FrontLoaded { first, bend, last } => {
-            reached(Curve::FrontLoaded { first, bend, last }, at)
-        }
-        Curve::Delayed { bend, rate } => reached(Curve::Delayed { bend, rate }, at),
+    let mut left = most;
+    for curve in curves {
+        let Some(rest) = left.checked_sub(number(*curve)) else {
+            return false;
+        };
+        left = rest;
     }
+    true
 }
 
 // Whether the sum of what the curves have reached at a tick is at most what the link sends by then.
-fn fits_at(curves: [Curve; CURVES], tick: u32) -> bool
-    ensures { Exactly result (total curves tick ≤ in_parts tick) }
+fn fits_at(curves: &[Curve; CURVES], tick: u32) -> bool
+    ensures { Exactly result (total curves.now tick ≤ in_parts tick) }
 {
-    let mut left = BYTE * tick as u64;
-    for i in 0..CURVES {
-        let amount = reached_by(curves[i], tick);
-        if left < amount {
-            return false;
-        }
-        left = left - amount;
-    }
-    true
+    sum_fits(curves, BYTE * u64::from(tick), |curve| curve.reached(tick))
 }
 
 // Whether the sum of the last slopes is at most the link's rate.
-fn slopes_fit(curves: [Curve; CURVES]) -> bool
-    ensures { Exactly result (slopes curves ≤ whole) }
+fn slopes_fit(curves: &[Curve; CURVES]) -> bool
+    ensures { Exactly result (slopes curves.now ≤ whole) }
 {
-    let mut left = WHOLE;
-    for i in 0..CURVES {
-        let slope = last_slope(curves[i]);
-        if left < slope {
-            return false;
-        }
-        left = left - slope;
-    }
-    true
+    sum_fits(curves, BYTE, |curve| u64::from(curve.last_slope()))
 }
 
 // Whether the curves fit: at every whole t the sum of all of them is at most what the link sends. Between two
@@ -77,10 +56,5 @@ fn slopes_fit(curves: [Curve; CURVES]) -> bool
 pub fn fits(curves: [Curve; CURVES]) -> bool
     ensures { TellsFit curves result }
 {
-    for k in 0..CURVES {
-        if !fits_at(curves, bend_of(curves[k])) {
-            return false;
-        }
-    }
-    slopes_fit(curves)
+    curves.iter().all(|curve| fits_at(&curves, curve.bend())) && slopes_fit(&curves)
 }

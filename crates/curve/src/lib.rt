@@ -17,7 +17,7 @@ pub const WHOLE: u32 = 65536;
 pub(crate) const BYTE: u64 = WHOLE as u64;
 
 // The latest bend, in ticks.
-pub const LATEST_BEND: u32 = 1048576;
+pub const LATEST_BEND: u32 = 1 << 20;
 
 // A real-time curve with its numbers: rates in parts, bends in ticks.
 #[derive(Clone, Copy, PartialEq, Eq)]

@@ -3,7 +3,7 @@
 
 #![tactic(auto)]
 
-ghost use Rattle.std.specs.Prelude.{◌≡◌, List, ℕ, ◌<◌, min, max};
+ghost use Rattle.std.specs.Prelude.{◌≡◌, List, ℕ, ◌<◌};
 ghost use Rattle.tree.specs.declared.Tree.{Tree};
 ghost use Rattle.rules.specs.Calls.{Call};
 ghost use Rattle.curve.specs.Curves.{RightRate};
@@ -22,7 +22,7 @@ use state::table::{
 
 // Of a class's children: whether one is active, without the one that turns active, with the smallest
 // and the largest of their virtual times; and the largest virtual time of all children.
-#[derive(Clone, Copy)]
+#[derive(Clone, Copy, PartialEq, Eq)]
 pub struct Spread {
     pub any: bool,
     pub low: u64,
@@ -30,48 +30,32 @@ pub struct Spread {
     pub last: u64,
 }
 
-fn larger(a: u64, b: u64) -> u64
-    ensures { result ≡ max a b }
-{
-    if a < b { b } else { a }
-}
-
-fn smaller(a: u64, b: u64) -> u64
-    ensures { result ≡ min a b }
-{
-    if a < b { a } else { b }
-}
-
-// One child more, with its virtual time.
-fn spread_with(s: Spread, virtual_time: u64, other: bool) -> Spread
-    ensures { result ≡ spread_with s virtual_time other }
-{
-    let last = larger(virtual_time, s.last);
-    if other {
-        return Spread {
-            any: true,
-            low: smaller(virtual_time, s.low),
-            high: larger(virtual_time, s.high),
-            last,
-        };
-    }
-    Spread {
-        any: s.any,
-        low: s.low,
-        high: s.high,
-        last,
+impl Spread {
+    // One child more, with its virtual time.
+    fn with(self, virtual_time: u64, other: bool) -> Spread
+        ensures { result ≡ spread_with self virtual_time other }
+    {
+        let last = virtual_time.max(self.last);
+        if other {
+            Spread {
+                any: true,
+                low: virtual_time.min(self.low),
+                high: virtual_time.max(self.high),
+                last,
+            }
+        } else {
+            Spread { last, ..self }
+        }
     }
 }
 
 // Whether a child is active, and another than the one that turns active.
+#[tactic(auto, unfolding(crate::specs::StepsWaking::other_in))]
 fn is_other(words: &Words, child: usize, class: usize) -> bool
     requires { child < CLASSES }
     ensures { result ≡ other_in words.now class child }
 {
-    if child == class {
-        return false;
-    }
-    get(words, child, ACTIVE) != 0
+    child != class && get(words, child, ACTIVE) != 0
 }
 
 // The children of a class as the one child turns active.
@@ -79,19 +63,20 @@ fn spread_of(words: &Words, parent: usize, class: usize) -> Spread
     requires { Some (λ tree. Family words.now tree parent) }
     ensures { (tree : Tree) → Family words.now tree parent → result ≡ spread_below words.now tree parent class tree.count }
 {
-    let mut s = Spread {
+    let mut spread = Spread {
         any: false,
         low: LARGEST,
         high: 0,
         last: 0,
     };
     let mut child = get(words, parent, CHILD) as usize;
+    // Stays: the children are a list by numbers in the array that the host lends (no heap), and an iterator over it needs this loop's invariant as its own.
     while child != 0 {
         let other = is_other(words, child, class);
-        s = spread_with(s, get(words, child, VIRTUAL), other);
+        spread = spread.with(get(words, child, VIRTUAL), other);
         child = get(words, child, SIBLING) as usize;
     }
-    s
+    spread
 }
 
 // "with other children active, the smallest plus the largest of their virtual times, halved and rounded
@@ -100,11 +85,12 @@ fn mark_by_children(words: &Words, parent: usize, class: usize) -> u64
     requires { Some (λ tree. Family words.now tree parent) }
     ensures { (tree : Tree) → Family words.now tree parent → result ≡ met_in words.now tree parent class }
 {
-    let s = spread_of(words, parent, class);
-    if s.any {
-        return (s.low + s.high) / 2;
+    let spread = spread_of(words, parent, class);
+    if spread.any {
+        (spread.low + spread.high) / 2
+    } else {
+        spread.last
     }
-    s.last
 }
 
 // The class's share, as a rate.
@@ -143,10 +129,7 @@ fn start_fair(words: &mut Words, parent: usize, class: usize)
     requires { Some (λ tree. BeforeStart words.old tree parent class) }
     ensures { (tree : Tree) → BeforeStart words.old tree parent class → FairStarted words.old words.new tree parent class }
 {
-    let mark = larger(
-        get(words, parent, MARK),
-        mark_by_children(words, parent, class),
-    );
+    let mark = get(words, parent, MARK).max(mark_by_children(words, parent, class));
     let piece = Piece {
         start: mark,
         sent: get(words, class, SENT),

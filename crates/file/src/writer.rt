@@ -8,7 +8,7 @@ ghost use Rattle.file.specs.Writing.{word_bytes, bytes_of, curve_bytes, body_wor
 
 use crate::Order;
 use crate::format::{MARK, VERSION, body_bytes, entry_at};
-use curve::codec::encode;
+use curve::codec::Code;
 use tree::{Class, Fault, Refusal, Tree};
 
 // A word, big end first, at a place of the buffer.
@@ -34,7 +34,7 @@ fn put_body(body: &mut [u8], class: Class)
     requires { length body.old ≡ curve_bytes class.curve }
     ensures { body.new ≡ bytes_of Order.Big (body_words class) }
 {
-    let code = encode(class.curve);
+    let code = Code::from(class.curve);
     let words = [
         class.parent,
         class.share,
@@ -51,7 +51,8 @@ fn put_body(body: &mut [u8], class: Class)
 fn class_bytes(tree: Tree, i: u32) -> u32
     ensures { result ≡ curve_bytes (curve_of tree i) }
 {
-    body_bytes(encode(tree::class_at(tree, i).curve).kind)
+    let code = Code::from(tree::class_at(tree, i).curve);
+    body_bytes(code.kind)
 }
 
 // The total bytes of a tree's file: the place after the last body.

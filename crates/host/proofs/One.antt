@@ -1,5 +1,7 @@
 -- Each exported function's promise allows one result: the number that it answers and all memory that it was lent.
 -- Assumes nothing.
+use Rattle.std.specs.Prelude.{Some, None, Ok, Err}
+use Rattle.rules.specs.Kinds.{Arrival, Departure}
 use Prim.Native.Nat.{ℕ}
 use mathlib.Core.Path.{◌≡◌, sym, ap, subst, ◌∙◌}
 use mathlib.Core.List.{List}
@@ -11,10 +13,6 @@ use Rattle.file.proofs.WriteOne.{write_one}
 use Rattle.file.specs.Fronts.{most_file_bytes}
 use Rattle.bursts.specs.declared.Taken.{Taken}
 use Rattle.bursts.proofs.One.{holds_some, begun_one, offered_one, ended_one}
-use Rattle.rules.specs.declared.Arrival.{Arrival}
-use Rattle.rules.specs.declared.Arrival.TheVariants.{Accepted}
-use Rattle.rules.specs.declared.Departure.{Departure}
-use Rattle.rules.specs.declared.Departure.TheVariants.{Leaves, NoneWaits}
 use Rattle.rules.specs.Calls.{History}
 use Rattle.rules.specs.Answers.{started}
 use Rattle.state.specs.State.{Shows, Reached}
@@ -120,13 +118,13 @@ module _ (m₀ l₀ : List ℕ) (reached : Reached m₀ l₀) where
 -- a refused call leaves the state as it was
 module _ (m₀ l₀ : List ℕ) (reached : Reached m₀ l₀) {m l : List ℕ} {said : ℕ} (some : said ≡ 0 → ⊥) where
   arrival_refused : (stamp class bytes : ℕ) (a : Arrival) → said ≡ arrival_number a → EveryHistory m₀ l₀ (λ h. ArriveRight h stamp class bytes a m l) → (m ≡ m₀) × (l ≡ l₀)
-  arrival_refused stamp class bytes (Accepted number) e f = absurd (some e)
-  arrival_refused stamp class bytes (Arrival.Refused why) e f = arrive_refused m₀ l₀ reached stamp class bytes why m l f
+  arrival_refused stamp class bytes (Ok number) e f = absurd (some e)
+  arrival_refused stamp class bytes (Err why) e f = arrive_refused m₀ l₀ reached stamp class bytes why m l f
 
   departure_refused : (stamp : ℕ) (a : Departure) → said ≡ departure_number a → EveryHistory m₀ l₀ (λ h. DepartRight h stamp a m l) → (m ≡ m₀) × (l ≡ l₀)
-  departure_refused stamp (Leaves packet) e f = absurd (some e)
-  departure_refused stamp NoneWaits e f = absurd (some e)
-  departure_refused stamp (Departure.Refused why) e f = depart_refused m₀ l₀ reached stamp why m l f
+  departure_refused stamp (Ok (Some packet)) e f = absurd (some e)
+  departure_refused stamp (Ok None) e f = absurd (some e)
+  departure_refused stamp (Err why) e f = depart_refused m₀ l₀ reached stamp why m l f
 
 pub arrive_told_refused : ArriveToldRefused
 arrive_told_refused m₀ l₀ reached stamp class bytes said packet m l told some = arrival_refused m₀ l₀ reached some stamp class bytes told.answer told.number told.right

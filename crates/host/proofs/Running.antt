@@ -7,8 +7,7 @@ use native.Mathlib.Omega.{arith}
 use Rattle.curve.specs.Curves.{Within}
 use Rattle.tree.specs.declared.Tree.{Tree}
 use Rattle.tree.specs.declared.Refusal.TheVariants.{WrongCount}
-use Rattle.tree.specs.declared.Verdict.{Verdict}
-use Rattle.tree.specs.declared.Verdict.TheVariants.{Right, Refused}
+use Rattle.tree.specs.Verdicts.{Verdict, all_right, refused}
 use Rattle.tree.specs.Rules.{Judged}
 use Rattle.tree.specs.Trees.{empty_tree}
 use Rattle.tree.proofs.Verdicts.{refused-4}
@@ -26,7 +25,7 @@ use Rattle.host.proofs.Starting.{reads_judged}
 pub run_words : {tree : Tree} {stamp said fault : ℕ} {m l : List ℕ} → stamp < 2 ^ 32 → (told : StartTold tree stamp said fault m l) → Run m l told.right.next
 run_words small told = started small told.right
 
-none_judged : (tree : Tree) → tree ≡ empty_tree → Judged tree (Refused WrongCount 0)
+none_judged : (tree : Tree) → tree ≡ empty_tree → Judged tree (refused WrongCount 0)
 unfolding empty_tree
 none_judged tree e =
     let none : tree.count ≡ 0 = ap (λ (t : Tree). t.count) e in
@@ -34,13 +33,13 @@ none_judged tree e =
 
 module _ {file : List ℕ} {tree : Tree} {stamp : ℕ} {m l : List ℕ} (small : stamp < 2 ^ 32) where
   file_run : (v : Verdict) → ReadsAs file v tree → Shows m l (answers.started tree stamp v) → Run m l (answers.started tree stamp v)
-  file_run Right reads shows =
-      started {answer = Right} small
-      (record { next = answers.started tree stamp Right; starts = record { judged = reads_judged file tree reads; history = refl }; shows = shows })
-  file_run (Refused why class) reads shows =
-      started {answer = Refused WrongCount 0} small
+  file_run all_right reads shows =
+      started {answer = all_right} small
+      (record { next = answers.started tree stamp all_right; starts = record { judged = reads_judged file tree reads; history = refl }; shows = shows })
+  file_run (refused why class) reads shows =
+      started {answer = refused WrongCount 0} small
       (record {
-        next = answers.started tree stamp (Refused why class);
+        next = answers.started tree stamp (refused why class);
         starts = record { judged = none_judged tree reads.given; history = refl };
         shows = shows;
       })

@@ -5,8 +5,7 @@ use Prim.Native.Nat.{ℕ}
 use mathlib.Core.Path.{◌≡◌, refl, ◌∙◌, ap, subst, subst⁻¹}
 use mathlib.Core.List.{List, []}
 use Rattle.tree.specs.declared.Tree.{Tree}
-use Rattle.tree.specs.declared.Verdict.{Verdict}
-use Rattle.tree.specs.declared.Verdict.TheVariants.{Right, Refused}
+use Rattle.tree.specs.Verdicts.{Verdict, all_right, refused}
 use Rattle.tree.specs.Rules.{Judged}
 use Rattle.tree.specs.Trees.{empty_tree}
 use Rattle.tree.proofs.One.{check_one}
@@ -22,17 +21,17 @@ pub start_of : {t u : Tree} {stamp : ℕ} {v : Verdict} {m l : List ℕ} → t �
 start_of {stamp = stamp} {v = v} {m = m} {l = l} e = subst (λ (t : Tree). StartRight t stamp v m l) e
 
 -- the tree of a right file is right
-pub reads_judged : (file : List ℕ) (tree : Tree) → ReadsAs file Right tree → Judged tree Right
-reads_judged file tree reads = subst⁻¹ (λ (t : Tree). Judged t Right) reads.given (right_judged _ (file_right file _ reads.judged))
+pub reads_judged : (file : List ℕ) (tree : Tree) → ReadsAs file all_right tree → Judged tree all_right
+reads_judged file tree reads = subst⁻¹ (λ (t : Tree). Judged t all_right) reads.given (right_judged _ (file_right file _ reads.judged))
 
 none_started : (tree : Tree) (stamp : ℕ) (v : Verdict) → tree ≡ empty_tree → started tree stamp v ≡ record { tree = empty_tree; first = stamp; calls = [] }
-none_started tree stamp Right e = ap (λ (t : Tree). record { tree = t; first = stamp; calls = [] }) e
-none_started tree stamp (Refused why class) e = refl
+none_started tree stamp all_right e = ap (λ (t : Tree). record { tree = t; first = stamp; calls = [] }) e
+none_started tree stamp (refused why class) e = refl
 
 module _ (file : List ℕ) (tree : Tree) (stamp : ℕ) where
   history_is : (v w : Verdict) → ReadsAs file v tree → Judged tree w → started tree stamp w ≡ started tree stamp v
-  history_is Right w reads judged = ap (started tree stamp) (check_one tree w Right judged (reads_judged file tree reads))
-  history_is (Refused why class) w reads judged = none_started tree stamp w reads.given
+  history_is all_right w reads judged = ap (started tree stamp) (check_one tree w all_right judged (reads_judged file tree reads))
+  history_is (refused why class) w reads judged = none_started tree stamp w reads.given
 
   pub file_shows : (v w : Verdict) (m l : List ℕ) → ReadsAs file v tree → StartRight tree stamp w m l → Shows m l (started tree stamp v)
   file_shows v w m l reads right =

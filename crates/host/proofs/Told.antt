@@ -1,5 +1,7 @@
 -- The numbers of an answer tell it: two answers with the same numbers are equal.
 -- Assumes nothing.
+use Rattle.std.specs.Prelude.{Some, None, Ok, Err}
+use Rattle.rules.specs.Kinds.{Arrival, Departure}
 use Prim.Native.Nat.{ℕ, ◌<◌}
 use mathlib.Core.Path.{◌≡◌, refl, ap, ap₂}
 use mathlib.Core.List.{List}
@@ -8,19 +10,13 @@ use lib.ListN.{get_or, drop}
 use Rattle.tree.specs.Numbers.{number_of}
 use Rattle.tree.specs.declared.Refusal.{Refusal}
 use Rattle.tree.specs.declared.Refusal.TheVariants.{ShortFile, NoMark, OtherVersion, WrongCount, WrongTotal, WrongPlace, WrongBody, TooDeep, CurveAboveChildren, CurvesDontFit, NoSuchLeaf, WrongLength, LeafFull, StampTooFar, ClockFull, BytesFull, SmallBuffer}
-use Rattle.tree.specs.declared.Verdict.{Verdict}
-use Rattle.tree.specs.declared.Verdict.TheVariants.{Right}
+use Rattle.tree.specs.Verdicts.{Verdict, all_right}
 use Rattle.tree.proofs.Numbers.{refusal_by_number}
 use Rattle.file.specs.declared.writer.Written.{Written}
 use Rattle.rules.specs.declared.Rule.{Rule}
 use Rattle.rules.specs.declared.Rule.TheVariants.{RealTime, Fair}
 use Rattle.rules.specs.declared.Times.{Times}
-use Rattle.rules.specs.declared.Times.TheVariants.{Untimed, Timed}
 use Rattle.rules.specs.declared.Packet.{Packet}
-use Rattle.rules.specs.declared.Arrival.{Arrival}
-use Rattle.rules.specs.declared.Arrival.TheVariants.{Accepted}
-use Rattle.rules.specs.declared.Departure.{Departure}
-use Rattle.rules.specs.declared.Departure.TheVariants.{Leaves, NoneWaits}
 use Rattle.host.specs.Numbers.{verdict_number, verdict_class, written_verdict, written_total, arrival_number, packet_number, rule_number, times_numbers, packet_numbers, departure_number, departure_numbers}
 
 -- no refusal has the number 0
@@ -44,9 +40,9 @@ number_some BytesFull = omega arith
 number_some SmallBuffer = omega arith
 
 pub verdict_told : (v w : Verdict) → verdict_number v ≡ verdict_number w → verdict_class v ≡ verdict_class w → v ≡ w
-verdict_told Right Right e f = refl
-verdict_told Right (Verdict.Refused why class) e f = absurd (omega (arith, number_some why))
-verdict_told (Verdict.Refused why class) Right e f = absurd (omega (arith, number_some why))
+verdict_told all_right all_right e f = refl
+verdict_told all_right (Verdict.Refused why class) e f = absurd (omega (arith, number_some why))
+verdict_told (Verdict.Refused why class) all_right e f = absurd (omega (arith, number_some why))
 verdict_told (Verdict.Refused why class) (Verdict.Refused why' class') e f = ap₂ Verdict.Refused (refusal_by_number why why' e) f
 
 written_by_verdict : (a b : Written) → written_verdict a ≡ written_verdict b → written_total a ≡ written_total b → a ≡ b
@@ -62,10 +58,10 @@ pub written_told : (a b : Written)
 written_told a b e f = written_by_verdict a b (verdict_told (written_verdict a) (written_verdict b) e f)
 
 pub arrival_told : (a b : Arrival) → arrival_number a ≡ arrival_number b → packet_number a ≡ packet_number b → a ≡ b
-arrival_told (Accepted number) (Accepted number') e f = ap Accepted f
-arrival_told (Accepted number) (Arrival.Refused why) e f = absurd (omega (arith, number_some why))
-arrival_told (Arrival.Refused why) (Accepted number) e f = absurd (omega (arith, number_some why))
-arrival_told (Arrival.Refused why) (Arrival.Refused why') e f = ap Arrival.Refused (refusal_by_number why why' e)
+arrival_told (Ok number) (Ok number') e f = ap Ok f
+arrival_told (Ok number) (Err why) e f = absurd (omega (arith, number_some why))
+arrival_told (Err why) (Ok number) e f = absurd (omega (arith, number_some why))
+arrival_told (Err why) (Err why') e f = ap Err (refusal_by_number why why' e)
 
 rule_told : (a b : Rule) → rule_number a ≡ rule_number b → a ≡ b
 rule_told RealTime RealTime e = refl
@@ -78,10 +74,10 @@ at : {k l : List ℕ} (i : ℕ) → k ≡ l → get_or k i 0 ≡ get_or l i 0
 at i e = ap (λ (n : List ℕ). get_or n i 0) e
 
 pub times_told : (a b : Times) → times_numbers a ≡ times_numbers b → a ≡ b
-times_told Untimed Untimed e = refl
-times_told Untimed (Timed x y) e = absurd (let z : ◌≡◌ {A = ℕ} 0 1 = at 0 e in omega arith)
-times_told (Timed x y) Untimed e = absurd (let z : ◌≡◌ {A = ℕ} 1 0 = at 0 e in omega arith)
-times_told (Timed x y) (Timed x' y') e = ap₂ Timed (at 1 e) (at 2 e)
+times_told None None e = refl
+times_told None (Some (record { eligible = x; deadline = y })) e = absurd (let z : ◌≡◌ {A = ℕ} 0 1 = at 0 e in omega arith)
+times_told (Some (record { eligible = x; deadline = y })) None e = absurd (let z : ◌≡◌ {A = ℕ} 1 0 = at 0 e in omega arith)
+times_told (Some (record { eligible = x; deadline = y })) (Some (record { eligible = x'; deadline = y' })) e = ap₂ Some (record { eligible = (at 1 e); deadline = (at 2 e) })
 
 packet_told : (p q : Packet) → packet_numbers p ≡ packet_numbers q → p ≡ q
 packet_told p q e =
@@ -90,12 +86,12 @@ packet_told p q e =
     λ i. record { class = at 1 e i; number = at 2 e i; length = at 3 e i; rule = rule i; times = times i }
 
 pub departure_told : (a b : Departure) → departure_number a ≡ departure_number b → departure_numbers a ≡ departure_numbers b → a ≡ b
-departure_told (Leaves p) (Leaves q) e f = ap Leaves (packet_told p q f)
-departure_told (Leaves p) NoneWaits e f = absurd (let z : ◌≡◌ {A = ℕ} 1 0 = at 0 f in omega arith)
-departure_told (Leaves p) (Departure.Refused why) e f = absurd (omega (arith, number_some why))
-departure_told NoneWaits (Leaves q) e f = absurd (let z : ◌≡◌ {A = ℕ} 0 1 = at 0 f in omega arith)
-departure_told NoneWaits NoneWaits e f = refl
-departure_told NoneWaits (Departure.Refused why) e f = absurd (omega (arith, number_some why))
-departure_told (Departure.Refused why) (Leaves q) e f = absurd (omega (arith, number_some why))
-departure_told (Departure.Refused why) NoneWaits e f = absurd (omega (arith, number_some why))
-departure_told (Departure.Refused why) (Departure.Refused why') e f = ap Departure.Refused (refusal_by_number why why' e)
+departure_told (Ok (Some p)) (Ok (Some q)) e f = ap Ok (Some (packet_told p q f))
+departure_told (Ok (Some p)) (Ok None) e f = absurd (let z : ◌≡◌ {A = ℕ} 1 0 = at 0 f in omega arith)
+departure_told (Ok (Some p)) (Err why) e f = absurd (omega (arith, number_some why))
+departure_told (Ok None) (Ok (Some q)) e f = absurd (let z : ◌≡◌ {A = ℕ} 0 1 = at 0 f in omega arith)
+departure_told (Ok None) (Ok None) e f = refl
+departure_told (Ok None) (Err why) e f = absurd (omega (arith, number_some why))
+departure_told (Err why) (Ok (Some q)) e f = absurd (omega (arith, number_some why))
+departure_told (Err why) (Ok None) e f = absurd (omega (arith, number_some why))
+departure_told (Err why) (Err why') e f = ap Err (refusal_by_number why why' e)

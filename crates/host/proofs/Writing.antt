@@ -7,8 +7,7 @@ use mathlib.Core.List.{List}
 use native.Mathlib.Omega.{arith}
 use lib.ListN.{length, take}
 use Rattle.tree.specs.declared.Tree.{Tree}
-use Rattle.tree.specs.declared.Verdict.{Verdict}
-use Rattle.tree.specs.declared.Verdict.TheVariants.{Right, Refused}
+use Rattle.tree.specs.Verdicts.{Verdict, all_right, refused}
 use Rattle.tree.specs.Rules.{ShapeChecked, RightTree, broken, kept}
 use Rattle.file.specs.declared.Order.TheVariants.{Big}
 use Rattle.file.specs.declared.writer.Written.{Written}
@@ -27,15 +26,15 @@ writes_of {old = old} {new = new} {answer = answer} e = subst (λ (t : Tree). Wr
 
 -- the verdict told is the one that the checks give
 told_verdict : (tree : Tree) (v : Verdict) → written_verdict (written_by tree v) ≡ v
-told_verdict tree Right = refl
-told_verdict tree (Refused why class) = refl
+told_verdict tree all_right = refl
+told_verdict tree (refused why class) = refl
 
 verdict_of : {tree : Tree} {old new : List ℕ} {answer : Written} → (w : Writes tree old answer new) → written_verdict answer ≡ w.verdict
 verdict_of {tree} w = ap written_verdict w.answered ∙ told_verdict tree w.verdict
 
 buffer_kept : (tree : Tree) (old : List ℕ) (v : Verdict) → (verdict_number v ≡ 0 → ⊥) → (buffer_by tree old v ≡ old) × (written_total (written_by tree v) ≡ 0)
-buffer_kept tree old Right some = absurd (some refl)
-buffer_kept tree old (Refused why class) some = (refl, refl)
+buffer_kept tree old all_right some = absurd (some refl)
+buffer_kept tree old (refused why class) some = (refl, refl)
 
 pub write_told_refused : WriteToldRefused
 write_told_refused tree old said total fault new told some =

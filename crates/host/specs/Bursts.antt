@@ -2,8 +2,7 @@
 -- Assumes nothing.
 use Rattle.std.specs.Prelude.{ℕ, ◌≡◌, not, cond, List, [], ◌∷◌, eqb, length, get_or}
 use Rattle.tree.specs.declared.Tree.{Tree}
-use Rattle.tree.specs.declared.Verdict.{Verdict}
-use Rattle.tree.specs.declared.Verdict.TheVariants.{Right}
+use Rattle.tree.specs.Verdicts.{Verdict, all_right}
 use Rattle.file.specs.Format.{ReadsAs}
 use Rattle.file.specs.Fronts.{most_file_bytes}
 use Rattle.bursts.specs.declared.Seen.{Seen}
@@ -25,7 +24,7 @@ seen_numbers seen = seen.count ∷ cond seen.ended 1 0 ∷ []
 
 -- an answer is told as the verdict that it has; nothing yet, as nothing refused
 abbrev pub answer_verdict : Answered → Verdict
-answer_verdict NothingYet = Right
+answer_verdict NothingYet = all_right
 answer_verdict (Reads verdict) = verdict
 
 abbrev pub told_number : Taken → ℕ

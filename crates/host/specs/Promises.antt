@@ -1,17 +1,16 @@
 -- What each exported call promises: the numbers that it gives are those of an answer that is right by document 01's definitions, and the arrays then show
 -- the history after it.
 -- Assumes nothing.
+use Rattle.rules.specs.Kinds.{Arrival, Departure}
 use Rattle.std.specs.Prelude.{ℕ, ◌≤◌, ◌≡◌, List, length, take}
 use Rattle.tree.specs.declared.Tree.{Tree}
-use Rattle.tree.specs.declared.Verdict.{Verdict}
+use Rattle.tree.specs.Verdicts.{Verdict}
 use Rattle.file.specs.declared.writer.Written.{Written}
 use Rattle.file.specs.Format.{ReadsAs}
 use Rattle.file.specs.Writing.{Writes}
 use Rattle.file.specs.Theorems.{ReadsBack}
 use Rattle.file.specs.Fronts.{most_file_bytes}
 use Rattle.rules.specs.declared.Times.{Times}
-use Rattle.rules.specs.declared.Arrival.{Arrival}
-use Rattle.rules.specs.declared.Departure.{Departure}
 use Rattle.rules.specs.Answers.{started}
 use Rattle.state.specs.State.{Shows, Reached}
 use Rattle.state.specs.Heads.{EveryHistory}

@@ -2,7 +2,8 @@
 ghost use Rattle.std.specs.Prelude.{◌≡◌, ◌+◌, ◌<◌, ◌^◌};
 ghost use Rattle.host.specs.Words.{word_at, class_from, tree_said};
 
-use curve::codec::{KINDS, decode};
+use curve::Curve;
+use curve::codec::Code;
 use state::table::CLASSES;
 use tree::{Class, Tree};
 
@@ -18,21 +19,18 @@ fn class_of(tree: &[u32], at: usize) -> Class
     requires { at + 6 < 2 ^ 64 }
     ensures { result ≡ class_from tree.now at }
 {
-    let kind = word(tree, at + 2);
-    if KINDS <= kind {
+    let code = Code {
+        kind: word(tree, at + 2),
+        first: word(tree, at + 3),
+        second: word(tree, at + 4),
+        third: word(tree, at + 5),
+    };
+    let Ok(curve) = Curve::try_from(code) else {
         return tree::no_class();
-    }
-    let parent = word(tree, at);
-    let share = word(tree, at + 1);
-    let curve = decode(
-        kind,
-        word(tree, at + 3),
-        word(tree, at + 4),
-        word(tree, at + 5),
-    );
+    };
     Class {
-        parent,
-        share,
+        parent: word(tree, at),
+        share: word(tree, at + 1),
         curve,
     }
 }

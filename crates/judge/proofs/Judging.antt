@@ -11,8 +11,7 @@ use Rattle.rules.specs.Calls.{History}
 use Rattle.rules.specs.Lawful.{Lawful}
 use Rattle.tree.specs.declared.Tree.{Tree}
 use Rattle.tree.specs.declared.Refusal.{Refusal}
-use Rattle.tree.specs.declared.Verdict.{Verdict}
-use Rattle.tree.specs.declared.Verdict.TheVariants.{Right}
+use Rattle.tree.specs.Verdicts.{Verdict, all_right, refused as at_fault}
 use Rattle.rules.specs.Limits.{wheel}
 use Rattle.rules.specs.Answers.{Starts}
 use Rattle.rules.proofs.Answers.{starts_lawful}
@@ -108,12 +107,12 @@ module _ {h : History} {log : List ℕ} {k at : ℕ} {m l : List ℕ} (o : Onwar
 
 -- the judgement of a whole log, from the promises of the start and of judging a part
 module _ {tree : Tree} {first : ℕ} {log m l : List ℕ} {answer : Verdict} (started : StartRight tree first answer m l) where
-  pub judged_refused : {why : Refusal} {class : ℕ} → answer ≡ Verdict.Refused why class → LogJudged tree first log (TreeRefused why class)
+  pub judged_refused : {why : Refusal} {class : ℕ} → answer ≡ at_fault why class → LogJudged tree first log (TreeRefused why class)
   judged_refused e = refused (subst (λ (v : Verdict). Starts tree first v started.next) e started.starts)
 
-  pub judged_replayed : {m' l' : List ℕ} {verdict : Judgement} → first < wheel → answer ≡ Right → EveryHistory m l (λ h. PartRight h log verdict m' l') → LogJudged tree first log verdict
+  pub judged_replayed : {m' l' : List ℕ} {verdict : Judgement} → first < wheel → answer ≡ all_right → EveryHistory m l (λ h. PartRight h log verdict m' l') → LogJudged tree first log verdict
   judged_replayed small e part =
       let starts = subst (λ (v : Verdict). Starts tree first v started.next) e started.starts in
       let here = started.next in
-      let judged = part here (starts_lawful tree first Right here small starts) started.shows in
+      let judged = part here (starts_lawful tree first all_right here small starts) started.shows in
       replayed starts judged.judges

@@ -7,8 +7,8 @@ use mathlib.Core.Bool.{Bool, true, false}
 use mathlib.Core.List.{List}
 use Rattle.tree.specs.declared.Tree.{Tree}
 use Rattle.tree.specs.declared.Refusal.{Refusal}
-use Rattle.tree.specs.declared.Verdict.{Verdict}
-use Rattle.tree.specs.declared.Verdict.TheVariants.{Right}
+use Rattle.std.specs.Prelude.{Ok, Err}
+use Rattle.tree.specs.Verdicts.{Verdict, all_right, refused as at_fault}
 use Rattle.rules.specs.Calls.{History}
 use Rattle.rules.specs.Lawful.{Lawful}
 use Rattle.rules.specs.Limits.{wheel}
@@ -52,17 +52,17 @@ judges_one law (short some few) (wrong found q e) = absurd (omega arith)
 judges_one law (short some few) (short some' few') = (refl, refl)
 
 is_refused : Verdict → Bool
-is_refused Right = false
-is_refused (Verdict.Refused why class) = true
+is_refused (Ok _) = false
+is_refused (Err _) = true
 
-pub clash : {A : Type 0} {why : Refusal} {class : ℕ} → Verdict.Refused why class ≡ Right → A
+pub clash : {A : Type 0} {why : Refusal} {class : ℕ} → at_fault why class ≡ all_right → A
 unfolding is_refused
 clash e = never refl (ap is_refused e)
 
 -- what a verdict on the tree is told as, where it decides
 abbrev pub told_of : Verdict → Judgement
-told_of Right = Accepted
-told_of (Verdict.Refused why class) = TreeRefused why class
+told_of (Ok _) = Accepted
+told_of (Err fault) = TreeRefused fault.why fault.class
 
 -- the promise of judging a whole log
 pub judge_one : (tree : Tree) (first : ℕ) (log : List ℕ) (v w : Judgement) → first < wheel → LogJudged tree first log v → LogJudged tree first log w → v ≡ w
@@ -72,8 +72,8 @@ judge_one tree first log v w small (refused {start = x} s) (refused {start = y} 
 judge_one tree first log v w small (refused {start = x} s) (replayed {start = y} t judges) = clash (starts_one tree first _ _ x y s t).0
 judge_one tree first log v w small (replayed {start = x} s judges) (refused {start = y} t) = clash (starts_one tree first _ _ y x t s).0
 judge_one tree first log v w small (replayed {start = x} s judges) (replayed {start = y} {next = n} t judges') =
-    let same = (starts_one tree first Right Right x y s t).1 in
-    (judges_one (starts_lawful tree first Right x small s) judges (subst (λ (z : History). Judges z 0 log w n) (sym same) judges')).0
+    let same = (starts_one tree first all_right all_right x y s t).1 in
+    (judges_one (starts_lawful tree first all_right x small s) judges (subst (λ (z : History). Judges z 0 log w n) (sym same) judges')).0
 
 -- the promises of replaying a record and of judging a part: one answer, and one content of the arrays
 module _ (m₀ l₀ : List ℕ) (reached : Reached m₀ l₀) (m m' l l' : List ℕ) where

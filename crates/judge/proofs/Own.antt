@@ -1,5 +1,7 @@
 -- The log of a run of our own calls is accepted.
 -- Assumes nothing.
+use Rattle.std.specs.Prelude.{Some, None, Ok, Err}
+use Rattle.rules.specs.Kinds.{Arrival, Departure}
 use Prim.Native.Nat.{ℕ, ◌+◌, ◌*◌}
 use native.Mathlib.Omega.{arith}
 use mathlib.Core.Path.{◌≡◌, refl, sym, ap, subst, ◌∙◌}
@@ -7,11 +9,7 @@ use mathlib.Core.Bool.{Bool, true}
 use mathlib.Core.List.{List, [], ◌++◌}
 use lib.ListN.{length, length-append}
 use Rattle.tree.specs.declared.Tree.{Tree}
-use Rattle.tree.specs.declared.Verdict.TheVariants.{Right}
-use Rattle.rules.specs.declared.Arrival.{Arrival}
-use Rattle.rules.specs.declared.Departure.{Departure}
-use Rattle.rules.specs.declared.Arrival.TheVariants as arrival
-use Rattle.rules.specs.declared.Departure.TheVariants as departure
+use Rattle.tree.specs.Verdicts.{all_right}
 use Rattle.rules.specs.declared.Packet.{Packet}
 use Rattle.rules.specs.Calls.{History}
 use Rattle.rules.specs.Answers.{Starts, Arrives, Departs}
@@ -33,36 +31,36 @@ WholeRecords log = (r : ℕ) × (length log ≡ 4 * r)
 module _ {h next : History} (stamp k : ℕ) where
   arrival_own : (class bytes : ℕ) (answer : Arrival) → Arrives h stamp class bytes answer next → Judges h k (entry_numbers (arrival_entry stamp class bytes answer)) judgement.Accepted next
   unfolding record_of
-  arrival_own class bytes (arrival.Accepted number) p =
-      let held : ArrivalReplayed h stamp class bytes Holds next = record { answer = arrival.Accepted number; arrives = p; finds = refl } in
+  arrival_own class bytes (Ok number) p =
+      let held : ArrivalReplayed h stamp class bytes Holds next = record { answer = Ok number; arrives = p; finds = refl } in
       right {after = next} {kind = arrival_kind} {stamp = stamp} {class = class} {bytes = bytes} held ended
-  arrival_own class bytes (arrival.Refused why) p = subst (λ (x : History). Judges h k [] judgement.Accepted x) (sym p.after) ended
+  arrival_own class bytes (Err why) p = subst (λ (x : History). Judges h k [] judgement.Accepted x) (sym p.after) ended
 
   departure_own : (answer : Departure) → Departs h stamp answer next → Judges h k (entry_numbers (departure_entry stamp answer)) judgement.Accepted next
   unfolding record_of
-  departure_own (departure.Leaves packet) p =
-      let same = sym (ap (λ (b : Bool). same_or b (departure.Leaves packet)) (same_packet packet)) in
-      let held : DepartureReplayed h stamp (departure_finding packet.class packet.length) Holds next = record { answer = departure.Leaves packet; departs = p; finds = same } in
+  departure_own (Ok (Some packet)) p =
+      let same = sym (ap (λ (b : Bool). same_or b (Some packet)) (same_packet packet)) in
+      let held : DepartureReplayed h stamp (departure_finding packet.class packet.length) Holds next = record { answer = Ok (Some packet); departs = p; finds = same } in
       right {after = next} {kind = departure_kind} {stamp = stamp} {class = packet.class} {bytes = packet.length} held ended
-  departure_own departure.NoneWaits p =
-      let held : DepartureReplayed h stamp empty_finding Holds next = record { answer = departure.NoneWaits; departs = p; finds = refl } in
+  departure_own (Ok None) p =
+      let held : DepartureReplayed h stamp empty_finding Holds next = record { answer = (Ok None); departs = p; finds = refl } in
       right {after = next} {kind = empty_kind} {stamp = stamp} {class = 0} {bytes = 0} held ended
-  departure_own (departure.Refused why) p = subst (λ (x : History). Judges h k [] judgement.Accepted x) (sym p.after) ended
+  departure_own (Err why) p = subst (λ (x : History). Judges h k [] judgement.Accepted x) (sym p.after) ended
 
 -- whole records
 whole_arrival : (stamp class bytes : ℕ) (answer : Arrival) → WholeRecords (entry_numbers (arrival_entry stamp class bytes answer))
-whole_arrival stamp class bytes (arrival.Accepted number) = (1, refl)
-whole_arrival stamp class bytes (arrival.Refused why) = (0, refl)
+whole_arrival stamp class bytes (Ok number) = (1, refl)
+whole_arrival stamp class bytes (Err why) = (0, refl)
 
 whole_departure : (stamp : ℕ) (answer : Departure) → WholeRecords (entry_numbers (departure_entry stamp answer))
-whole_departure stamp (departure.Leaves packet) = (1, refl)
-whole_departure stamp departure.NoneWaits = (1, refl)
-whole_departure stamp (departure.Refused why) = (0, refl)
+whole_departure stamp (Ok (Some packet)) = (1, refl)
+whole_departure stamp (Ok None) = (1, refl)
+whole_departure stamp (Err why) = (0, refl)
 
 -- how far a log of our own calls has come
 record Own (tree : Tree) (first : ℕ) (log : List ℕ) (h : History) : Type 0 where
   start : History
-  starts : Starts tree first Right start
+  starts : Starts tree first all_right start
   records : ℕ
   size : length log ≡ 4 * records
   judges : Judges start 0 log judgement.Accepted h

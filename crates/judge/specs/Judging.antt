@@ -1,15 +1,11 @@
 -- Request 4, "Judge the competitor's box from its log": a log replayed over document 01's definitions, record by record.
 -- Assumes nothing.
-use Rattle.std.specs.Prelude.{ℕ, ◌+◌, ◌<◌, ◌≡◌, Bool, true, false, ◌&&◌, List, [], ◌∷◌, eqb, length}
+use Rattle.rules.specs.Kinds.{Arrival, Departure}
+use Rattle.std.specs.Prelude.{ℕ, ◌+◌, ◌<◌, ◌≡◌, Bool, true, false, ◌&&◌, List, [], ◌∷◌, eqb, length, Option, Some, None, Ok, Err}
 use Rattle.tree.specs.declared.Tree.{Tree}
 use Rattle.tree.specs.declared.Refusal.{Refusal}
-use Rattle.tree.specs.declared.Verdict.{Verdict}
-use Rattle.tree.specs.declared.Verdict.TheVariants.{Right}
+use Rattle.tree.specs.Verdicts.{all_right, refused as at_fault}
 use Rattle.rules.specs.declared.Packet.{Packet}
-use Rattle.rules.specs.declared.Arrival.{Arrival}
-use Rattle.rules.specs.declared.Arrival.TheVariants as arrival
-use Rattle.rules.specs.declared.Departure.{Departure}
-use Rattle.rules.specs.declared.Departure.TheVariants as departure
 use Rattle.rules.specs.Calls.{History}
 use Rattle.rules.specs.Answers.{Starts, Arrives, Departs}
 use Rattle.records.specs.declared.Record.{Record}
@@ -23,11 +19,11 @@ use Rattle.judge.specs.declared.Judgement.TheVariants as judgement
 
 -- "every arrival is accepted", or the record is "refused (with the number)"
 abbrev pub arrival_finding : Arrival → Finding
-arrival_finding (arrival.Accepted number) = Holds
-arrival_finding (arrival.Refused why) = Refused why
+arrival_finding (Ok number) = Holds
+arrival_finding (Err why) = Refused why
 
 -- "every departure .. is the one our rules give, class and length both", or the record is "another choice"
-abbrev pub same_or : Bool → Departure → Finding
+abbrev pub same_or : Bool → Option Packet → Finding
 same_or true ours = Holds
 same_or false ours = Another ours
 
@@ -36,15 +32,15 @@ abbrev pub is_that : (class length : ℕ) → Packet → Bool
 is_that class length packet = eqb packet.class class && eqb packet.length length
 
 abbrev pub departure_finding : (class length : ℕ) → Departure → Finding
-departure_finding class length (departure.Leaves packet) = same_or (is_that class length packet) (departure.Leaves packet)
-departure_finding class length departure.NoneWaits = Another departure.NoneWaits
-departure_finding class length (departure.Refused why) = Refused why
+departure_finding class length (Ok (Some packet)) = same_or (is_that class length packet) (Some packet)
+departure_finding class length (Ok None) = Another None
+departure_finding class length (Err why) = Refused why
 
 -- "or empty answer is the one our rules give"
 abbrev pub empty_finding : Departure → Finding
-empty_finding (departure.Leaves packet) = Another (departure.Leaves packet)
-empty_finding departure.NoneWaits = Holds
-empty_finding (departure.Refused why) = Refused why
+empty_finding (Ok (Some packet)) = Another (Some packet)
+empty_finding (Ok None) = Holds
+empty_finding (Err why) = Refused why
 
 -- a record replayed after the history h: the answer that document 01 gives, what the record is found to be by it, and the history then
 pub record ArrivalReplayed (h : History) (stamp class bytes : ℕ) (finding : Finding) (next : History) : Type 0 where
@@ -94,6 +90,6 @@ pub data Judges : History → (k : ℕ) → (log : List ℕ) → Judgement → H
 -- "replayed from a given tree and first stamp"
 pub data LogJudged (tree : Tree) (first : ℕ) (log : List ℕ) : Judgement → Type 0 where
   -- "A tree that start refuses is answered with that refusal before any record is read."
-  refused : {why : Refusal} {class : ℕ} {start : History} → Starts tree first (Verdict.Refused why class) start → LogJudged tree first log (TreeRefused why class)
+  refused : {why : Refusal} {class : ℕ} {start : History} → Starts tree first (at_fault why class) start → LogJudged tree first log (TreeRefused why class)
   -- otherwise its records decide, numbered from 0
-  replayed : {start next : History} {verdict : Judgement} → Starts tree first Right start → Judges start 0 log verdict next → LogJudged tree first log verdict
+  replayed : {start next : History} {verdict : Judgement} → Starts tree first all_right start → Judges start 0 log verdict next → LogJudged tree first log verdict

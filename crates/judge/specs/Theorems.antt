@@ -1,10 +1,9 @@
 -- What is proved of judging. Each statement stands here under a name; a comment names the law of proofs/ that proves it.
 -- Assumes nothing.
+use Rattle.rules.specs.Kinds.{Arrival, Departure}
 use Rattle.std.specs.Prelude.{ℕ, ◌+◌, ◌*◌, ◌≡◌, List, [], ◌++◌, length}
 use Rattle.tree.specs.declared.Tree.{Tree}
-use Rattle.tree.specs.declared.Verdict.TheVariants.{Right}
-use Rattle.rules.specs.declared.Arrival.{Arrival}
-use Rattle.rules.specs.declared.Departure.{Departure}
+use Rattle.tree.specs.Verdicts.{all_right}
 use Rattle.rules.specs.Calls.{History}
 use Rattle.sched.specs.Promises.{StartRight, ArriveRight, DepartRight}
 use Rattle.records.specs.Records.{arrival_entry, departure_entry, entry_numbers}
@@ -14,7 +13,7 @@ use Rattle.judge.specs.Judging.{Judges, LogJudged}
 
 -- The log of a run of our own calls: a start that is not refused, and then arrivals and departures, each as its promise says. A call leaves its record, and a refused one none.
 pub data Logs (tree : Tree) (first : ℕ) : (log m l : List ℕ) → History → Type 0 where
-  started : {m l : List ℕ} → (right : StartRight tree first Right m l) → Logs tree first [] m l right.next
+  started : {m l : List ℕ} → (right : StartRight tree first all_right m l) → Logs tree first [] m l right.next
   arrived : {log m l m' l' : List ℕ} {h : History} {stamp class bytes : ℕ} {answer : Arrival}
       → Logs tree first log m l h → (right : ArriveRight h stamp class bytes answer m' l')
       → Logs tree first (log ++ entry_numbers (arrival_entry stamp class bytes answer)) m' l' right.next

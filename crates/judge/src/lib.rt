@@ -11,27 +11,27 @@ ghost use Rattle.judge.specs.Judging.{arrival_finding, departure_finding, empty_
 ghost use Rattle.judge.specs.Promises.{ReplayRight, PartRight};
 
 use records::Record;
-use rules::{Arrival, Departure};
+use rules::Packet;
 use state::table::{CELLS, Lengths, PLACES, Words};
-use tree::{Refusal, Tree, Verdict};
+use tree::{Refusal, Tree};
 
-// What a record is found to be. `ours` is the answer of our rules where the record has another.
-#[derive(Clone, Copy)]
+// What a record is found to be. `ours` is what our rules send, if they send one, where the record has another.
+#[derive(Clone, Copy, PartialEq, Eq)]
 pub enum Finding {
     Holds,
     Malformed,
     Refused { why: Refusal },
-    Another { ours: Departure },
+    Another { ours: Option<Packet> },
 }
 
 // What a log is judged as: accepted, the refusal of its tree, or its first wrong record, counted from 0.
-#[derive(Clone, Copy)]
+#[derive(Clone, Copy, PartialEq, Eq)]
 pub enum Judgement {
     Accepted,
     TreeRefused { why: Refusal, class: u32 },
     Malformed { record: u64 },
     Refused { record: u64, why: Refusal },
-    AnotherChoice { record: u64, ours: Departure },
+    AnotherChoice { record: u64, ours: Option<Packet> },
 }
 
 // Judges a whole log, replayed from the tree with that first stamp.
@@ -40,9 +40,11 @@ pub fn judge(tree: Tree, first: u32, log: &[u32]) -> Judgement
 {
     let mut words = [0u64; CELLS];
     let mut lengths = [0u16; PLACES];
-    let verdict = sched::start(tree, first, &mut words, &mut lengths);
-    if let Verdict::Refused { why, class } = verdict {
-        return Judgement::TreeRefused { why, class };
+    if let Err(fault) = sched::start(tree, first, &mut words, &mut lengths) {
+        return Judgement::TreeRefused {
+            why: fault.why,
+            class: fault.class,
+        };
     }
     judge_part(&mut words, &mut lengths, log)
 }
@@ -53,17 +55,14 @@ pub fn judge_part(words: &mut Words, lengths: &mut Lengths, log: &[u32]) -> Judg
     ensures right { EveryHistory words.old lengths.old (λ h. PartRight h log.now result words.new lengths.new) }
     ensures reached { Reached words.new lengths.new }
 {
-    let mut records: usize = 0;
-    let mut at: usize = 0;
-    while 4 <= log.len() - at {
-        let finding = replay(words, lengths, record_at(log, at));
+    let records = log.len() / 4;
+    for record in 0..records {
+        let finding = replay(words, lengths, record_at(log, 4 * record));
         let Finding::Holds = finding else {
-            return name(records as u64, finding);
+            return name(record as u64, finding);
         };
-        records += 1;
-        at += 4;
     }
-    if at < log.len() {
+    if 4 * records < log.len() {
         return Judgement::Malformed {
             record: records as u64,
         };
@@ -101,42 +100,37 @@ pub fn replay(words: &mut Words, lengths: &mut Lengths, said: Record) -> Finding
     }
 }
 
-fn of_arrival(answer: Arrival) -> Finding
+fn of_arrival(answer: Result<u64, Refusal>) -> Finding
     ensures { result ≡ arrival_finding answer }
 {
-    match answer {
-        Arrival::Accepted { number: _ } => Finding::Holds,
-        Arrival::Refused { why } => Finding::Refused { why },
-    }
-}
-
-// A departure that, as the log has it, sent a packet of that class and length.
-fn of_departure(answer: Departure, class: u32, length: u32) -> Finding
-    ensures { result ≡ departure_finding class «length» answer }
-{
-    if let Departure::Refused { why } = answer {
+    if let Err(why) = answer {
         return Finding::Refused { why };
-    }
-    let Departure::Leaves { packet } = answer else {
-        return Finding::Another { ours: answer };
-    };
-    if packet.class != class {
-        return Finding::Another { ours: answer };
-    }
-    if packet.length != length {
-        return Finding::Another { ours: answer };
     }
     Finding::Holds
 }
 
+// A departure that, as the log has it, sent a packet of that class and length.
+fn of_departure(answer: Result<Option<Packet>, Refusal>, class: u32, length: u32) -> Finding
+    ensures { result ≡ departure_finding class «length» answer }
+{
+    let ours = match answer {
+        Ok(ours) => ours,
+        Err(why) => return Finding::Refused { why },
+    };
+    match ours {
+        Some(packet) if packet.class == class && packet.length == length => Finding::Holds,
+        _ => Finding::Another { ours },
+    }
+}
+
 // A departure that, as the log has it, found none waiting.
-fn of_empty(answer: Departure) -> Finding
+fn of_empty(answer: Result<Option<Packet>, Refusal>) -> Finding
     ensures { result ≡ empty_finding answer }
 {
     match answer {
-        Departure::Leaves { packet: _ } => Finding::Another { ours: answer },
-        Departure::NoneWaits => Finding::Holds,
-        Departure::Refused { why } => Finding::Refused { why },
+        Ok(None) => Finding::Holds,
+        Ok(ours) => Finding::Another { ours },
+        Err(why) => Finding::Refused { why },
     }
 }
 

@@ -1,15 +1,13 @@
 -- A log judged over a class-tree file, and the judgement as numbers: what the call answers, and what it writes into lent memory, with 0 wherever there is
 -- nothing to say.
 -- Assumes nothing.
-use Rattle.std.specs.Prelude.{ℕ, ◌≡◌, List, [], ◌∷◌}
+use Rattle.rules.specs.Kinds.{Departure}
+use Rattle.std.specs.Prelude.{ℕ, ◌≡◌, List, [], ◌∷◌, Some, None, Ok, Err}
 use Rattle.tree.specs.declared.Tree.{Tree}
 use Rattle.tree.specs.declared.Refusal.{Refusal}
-use Rattle.tree.specs.declared.Verdict.{Verdict}
-use Rattle.tree.specs.declared.Verdict.TheVariants.{Right}
+use Rattle.tree.specs.Verdicts.{Verdict, all_right}
 use Rattle.tree.specs.Numbers.{number_of}
 use Rattle.file.specs.Format.{ReadsAs}
-use Rattle.rules.specs.declared.Departure.{Departure}
-use Rattle.rules.specs.declared.Departure.TheVariants.{Leaves, NoneWaits}
 use Rattle.judge.specs.declared.Judgement.{Judgement}
 use Rattle.judge.specs.declared.Judgement.TheVariants.{Accepted, TreeRefused, Malformed, Refused, AnotherChoice}
 use Rattle.judge.specs.Judging.{LogJudged}
@@ -17,7 +15,7 @@ use Rattle.judge.specs.Judging.{LogJudged}
 -- a refused file is told as a refused tree, "before any record is read"
 pub data LogJudgedByFile (file : List ℕ) (first : ℕ) (log : List ℕ) : Judgement → Type 0 where
   unread : {why : Refusal} {class : ℕ} {tree : Tree} → ReadsAs file (Verdict.Refused why class) tree → LogJudgedByFile file first log (TreeRefused why class)
-  read : {tree : Tree} {judgement : Judgement} → ReadsAs file Right tree → LogJudged tree first log judgement → LogJudgedByFile file first log judgement
+  read : {tree : Tree} {judgement : Judgement} → ReadsAs file all_right tree → LogJudged tree first log judgement → LogJudgedByFile file first log judgement
 
 -- what the call answers
 abbrev pub judgement_number : Judgement → ℕ
@@ -29,9 +27,9 @@ judgement_number (AnotherChoice k ours) = 4
 
 -- of another choice: the record, whether our rules send a packet, and its class and length
 abbrev pub ours_numbers : ℕ → Departure → List ℕ
-ours_numbers k (Leaves packet) = k ∷ 1 ∷ packet.class ∷ packet.length ∷ []
-ours_numbers k NoneWaits = k ∷ 0 ∷ 0 ∷ 0 ∷ []
-ours_numbers k (Departure.Refused why) = k ∷ 0 ∷ 0 ∷ 0 ∷ []
+ours_numbers k (Ok (Some packet)) = k ∷ 1 ∷ packet.class ∷ packet.length ∷ []
+ours_numbers k (Ok None) = k ∷ 0 ∷ 0 ∷ 0 ∷ []
+ours_numbers k (Err why) = k ∷ 0 ∷ 0 ∷ 0 ∷ []
 
 -- what it writes: the record, "whether it was malformed, refused (with the number), or another choice"; of a refused tree the number and the class
 abbrev pub judgement_numbers : Judgement → List ℕ

@@ -1,6 +1,6 @@
 -- A text judged from its first byte on: what it comes to.
 -- Assumes nothing.
-use Rattle.std.proofs.Common.{◌≡◌, ℕ, ◌+◌, ◌*◌, ◌^◌, ◌<◌, ◌≤◌, true, false, List, [], ◌∷◌, ◌++◌, length, sym, refl, ap, ◌∙◌, subst, append_assoc, append-nil, zero-add, arith, length-append}
+use Rattle.std.proofs.Common.{◌≡◌, ℕ, ◌+◌, ◌*◌, ◌^◌, ◌<◌, ◌≤◌, true, false, List, None, Some, Ok, Err, [], ◌∷◌, ◌++◌, length, sym, refl, ap, ◌∙◌, subst, append_assoc, append-nil, zero-add, arith, length-append}
 use Rattle.rules.specs.Calls.{History}
 use Rattle.rules.proofs.Tests.{never}
 use Rattle.records.specs.Records.{record_of}
@@ -11,9 +11,7 @@ use Rattle.judge.specs.declared.Judgement.TheVariants.{Accepted}
 use Rattle.judge.specs.Judging.{RecordReplayed, holds, judgement_at, Judges, ended, right, wrong, short}
 use Rattle.judge.proofs.Parts.{parts_judged, first_part_judged, wrong_named}
 use Rattle.logtext.specs.declared.Scan.{Scan}
-use Rattle.logtext.specs.declared.Seen.{Seen}
-use Rattle.logtext.specs.declared.Seen.TheVariants as seen
-use Rattle.logtext.specs.Scans.{before_text, seen_at, stepped}
+use Rattle.logtext.specs.Scans.{Seen, not_a_number, before_text, seen_at, stepped}
 use Rattle.logtext.specs.Texts.{with_seen, is_no_error, numbers_of, scan_over, is_well}
 use Rattle.logtext.proofs.Turns.{in_turns}
 use Rattle.judgetext.specs.declared.Held.{Held}
@@ -85,29 +83,29 @@ module _ {h now : History} {front : List ℕ} {at : Progress} (o : Sofar h front
         ∙ append_assoc o.whole (held_numbers at.held) (with_seen s [])
 
   -- it shows nothing
-  on_nothing : seen_at at.scan b ≡ seen.Nothing → Sofar h on (moved at b) now
+  on_nothing : seen_at at.scan b ≡ (Ok None) → Sofar h on (moved at b) now
   on_nothing e =
       record {
         stands = o.stands;
         scans = scans_on;
-        well = well_on seen.Nothing e refl;
+        well = well_on (Ok None) e refl;
         whole = o.whole;
-        numbers = numbers_on seen.Nothing e ∙ ap (λ (x : List ℕ). o.whole ++ x) (append-nil (held_numbers at.held));
+        numbers = numbers_on (Ok None) e ∙ ap (λ (x : List ℕ). o.whole ++ x) (append-nil (held_numbers at.held));
         size = o.size;
         judges = o.judges;
         few = omega (arith, o.few, longer_by_one);
       }
 
-  module _ (n : ℕ) (e : seen_at at.scan b ≡ seen.Ended n) where
+  module _ (n : ℕ) (e : seen_at at.scan b ≡ Ok (Some n)) where
     -- it ends a number, which is held
     on_held : (held : Held) → held_numbers held ≡ held_numbers at.held ++ (n ∷ []) → Sofar h on (holding (moved at b) held) now
     on_held held same =
         record {
           stands = o.stands;
           scans = scans_on;
-          well = well_on (seen.Ended n) e refl;
+          well = well_on (Ok (Some n)) e refl;
           whole = o.whole;
-          numbers = numbers_on (seen.Ended n) e ∙ ap (λ (x : List ℕ). o.whole ++ x) (sym same);
+          numbers = numbers_on (Ok (Some n)) e ∙ ap (λ (x : List ℕ). o.whole ++ x) (sym same);
           size = o.size;
           judges = o.judges;
           few = omega (arith, o.few, longer_by_one);
@@ -119,7 +117,7 @@ module _ {h now : History} {front : List ℕ} {at : Progress} (o : Sofar h front
       last = kind ∷ stamp ∷ class ∷ n ∷ []
 
       numbers_whole : numbers_of before_text on ≡ o.whole ++ last
-      numbers_whole = numbers_on (seen.Ended n) e ∙ ap (λ (x : Held). o.whole ++ (held_numbers x ++ (n ∷ []))) held
+      numbers_whole = numbers_on (Ok (Some n)) e ∙ ap (λ (x : Held). o.whole ++ (held_numbers x ++ (n ∷ []))) held
 
       on_right : (next : History) → length on < 2 ^ 64 → RecordReplayed now (record_of kind stamp class n) finding.Holds next → Sofar h on (completed (moved at b) finding.Holds) next
       on_right next small replayed =
@@ -128,7 +126,7 @@ module _ {h now : History} {front : List ℕ} {at : Progress} (o : Sofar h front
           record {
             stands = refl;
             scans = scans_on;
-            well = well_on (seen.Ended n) e refl;
+            well = well_on (Ok (Some n)) e refl;
             whole = o.whole ++ last;
             numbers = numbers_whole ∙ sym (append-nil (o.whole ++ last));
             size = length-append o.whole last ∙ omega (arith, o.size, one);
@@ -145,7 +143,7 @@ module _ {h now : History} {front : List ℕ} {at : Progress} (o : Sofar h front
           let all = numbers_of (scan_over before_text on) rest in
           let longer = first_part_judged h 0 (at.records + 1) (o.whole ++ last) all (judgement_at at.records f) next size (λ a. wrong_named at.records f bad a) here in
           subst (λ (x : List ℕ). Judges h 0 x (judgement_at at.records f) next)
-          (ap (λ (x : List ℕ). x ++ all) (sym numbers_whole) ∙ sym ((in_turns before_text on rest).numbers (well_on (seen.Ended n) e refl)))
+          (ap (λ (x : List ℕ). x ++ all) (sym numbers_whole) ∙ sym ((in_turns before_text on rest).numbers (well_on (Ok (Some n)) e refl)))
           longer
 
 -- how a text that is right ends
@@ -187,21 +185,21 @@ module _ {h : History} where
     means_rest : Sofar h (more front b) mid between → Means h (front ++ (b ∷ rest)) after.standing after next
     means_rest p = subst (λ (x : List ℕ). Means h x after.standing after next) apart (rest-means p)
 
-    means_wrong : (n kind stamp class : ℕ) → seen_at at.scan b ≡ seen.Ended n → at.held ≡ Class kind stamp class → (f : Finding)
+    means_wrong : (n kind stamp class : ℕ) → seen_at at.scan b ≡ Ok (Some n) → at.held ≡ Class kind stamp class → (f : Finding)
         → RecordReplayed now (record_of kind stamp class n) f between → holds f ≡ false → mid ≡ wrong_at (moved at b) f → Means h (front ++ (b ∷ rest)) after.standing after next
     means_wrong n kind stamp class e held f replayed bad is =
         let same = over_stays rest (ap (λ (x : Progress). is_right x.standing) is) follows in
         let at_end = same.0 ∙ is in
         rw (same.1, at_end) (subst (λ (x : List ℕ). Judges h 0 (numbers_of before_text x) (judgement_at at.records f) between) apart (on_wrong o b n e kind stamp class held between f replayed bad rest))
 
-    completes : (n kind stamp class : ℕ) → seen_at at.scan b ≡ seen.Ended n → at.held ≡ Class kind stamp class → (f : Finding)
+    completes : (n kind stamp class : ℕ) → seen_at at.scan b ≡ Ok (Some n) → at.held ≡ Class kind stamp class → (f : Finding)
         → RecordReplayed now (record_of kind stamp class n) f between → mid ≡ completed (moved at b) f → Means h (front ++ (b ∷ rest)) after.standing after next
     completes n kind stamp class e held finding.Holds replayed is = means_rest (rw is (on_right o b n e kind stamp class held between small_more replayed))
     completes n kind stamp class e held finding.Malformed replayed is = means_wrong n kind stamp class e held finding.Malformed replayed refl is
     completes n kind stamp class e held (finding.Refused why) replayed is = means_wrong n kind stamp class e held (finding.Refused why) replayed refl is
     completes n kind stamp class e held (finding.Another ours) replayed is = means_wrong n kind stamp class e held (finding.Another ours) replayed refl is
 
-    takes : (n : ℕ) → seen_at at.scan b ≡ seen.Ended n → (held : Held) → at.held ≡ held → TakesTo now held (moved at b) n mid between
+    takes : (n : ℕ) → seen_at at.scan b ≡ Ok (Some n) → (held : Held) → at.held ≡ held → TakesTo now held (moved at b) n mid between
         → Means h (front ++ (b ∷ rest)) after.standing after next
     takes n e Nothing held p = means_rest (rw (p.0, p.1) (on_held o b n e (Kind n) (rw held refl)))
     takes n e (Kind kind) held p = means_rest (rw (p.0, p.1) (on_held o b n e (Stamp kind n) (rw held refl)))
@@ -209,9 +207,9 @@ module _ {h : History} where
     takes n e (Class kind stamp class) held p = completes n kind stamp class e held p.found p.replayed p.stands
 
     reads : (s : Seen) → seen_at at.scan b ≡ s → ReadsSeen now s at b mid between → Means h (front ++ (b ∷ rest)) after.standing after next
-    reads seen.Nothing e p = means_rest (rw (p.0, p.1) (on_nothing o b e))
-    reads (seen.Ended n) e p = takes n e at.held refl p
-    reads seen.NotANumber e p =
+    reads (Ok None) e p = means_rest (rw (p.0, p.1) (on_nothing o b e))
+    reads (Ok (Some n)) e p = takes n e at.held refl p
+    reads (Err why) e p =
         let same = over_stays rest (ap (λ (x : Progress). is_right x.standing) p.0) follows in
         let stuck-here : after ≡ stuck at at.scan.line = same.0 ∙ p.0 in
         let up : UpTo h (front ++ (b ∷ rest)) at.scan.line now =
@@ -221,7 +219,7 @@ module _ {h : History} where
           rest = rest;
           text_is = refl;
           well = o.well;
-          no_number = seen_here o b seen.NotANumber e;
+          no_number = seen_here o b not_a_number e;
           line_is = ap (λ (x : Scan). x.line) o.scans;
           whole = o.whole;
           begun = held_numbers at.held;

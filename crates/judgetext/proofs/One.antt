@@ -1,6 +1,6 @@
 -- A text allows one progress, and one history after it: so the promise allows one answer, and one content of the arrays.
 -- Assumes nothing.
-use Rattle.std.proofs.Common.{◌≡◌, ℕ, List, sym, refl, ap, ◌∙◌, subst}
+use Rattle.std.proofs.Common.{◌≡◌, ℕ, List, None, Some, Ok, Err, sym, refl, ap, ◌∙◌, subst}
 use Rattle.rules.specs.Calls.{History}
 use Rattle.rules.specs.Lawful.{Lawful}
 use Rattle.rules.proofs.Tests.{never}
@@ -9,9 +9,7 @@ use Rattle.state.specs.Heads.{EveryHistory}
 use Rattle.state.proofs.ShowsOne.{shows_one}
 use Rattle.records.specs.Records.{record_of}
 use Rattle.judge.proofs.Replaying.{replayed_one}
-use Rattle.logtext.specs.declared.Seen.{Seen}
-use Rattle.logtext.specs.declared.Seen.TheVariants as seen
-use Rattle.logtext.specs.Scans.{seen_at}
+use Rattle.logtext.specs.Scans.{Seen, seen_at}
 use Rattle.judgetext.specs.declared.Held.{Held}
 use Rattle.judgetext.specs.declared.Held.TheVariants.{Nothing, Kind, Stamp, Class}
 use Rattle.judgetext.specs.declared.Progress.{Progress}
@@ -32,9 +30,9 @@ module _ (h : History) (law : Lawful h) (after after' : Progress) (x y : History
       (p.stands ∙ ap (completed at) one.0 ∙ sym q.stands, one.1)
 
   reads_one : (s : Seen) (at : Progress) (b : ℕ) → ReadsSeen h s at b after x → ReadsSeen h s at b after' y → (after ≡ after') × (x ≡ y)
-  reads_one seen.Nothing at b p q = known_one p q
-  reads_one (seen.Ended n) at b p q = takes_one at.held (moved at b) n p q
-  reads_one seen.NotANumber at b p q = known_one p q
+  reads_one (Ok None) at b p q = known_one p q
+  reads_one (Ok (Some n)) at b p q = takes_one at.held (moved at b) n p q
+  reads_one (Err why) at b p q = known_one p q
 
 follows_one : {h x y : History} {at after after' : Progress} {text : List ℕ} → Lawful h → TextFollows h at text after x → TextFollows h at text after' y → (after ≡ after') × (x ≡ y)
 follows_one law ended ended = (refl, refl)

@@ -1,16 +1,14 @@
 -- A text judged from the front: how far it has come, and each way in which it goes on or ends.
 -- Assumes nothing.
-use Rattle.std.proofs.Common.{◌≡◌, ℕ, ◌+◌, ◌<◌, true, false, List, length, get_or, drop, sym, subst, arith, length-drop}
+use Rattle.std.proofs.Common.{◌≡◌, ℕ, ◌+◌, ◌<◌, true, false, List, None, Some, Ok, Err, length, get_or, drop, sym, subst, arith, length-drop}
 use Rattle.rules.specs.Calls.{History}
 use Rattle.rules.specs.Lawful.{Lawful}
 use Rattle.state.specs.State.{Shows}
 use Rattle.state.specs.Heads.{EveryHistory}
 use Rattle.judge.proofs.Judging.{one_more_lem, none_left}
 use Rattle.judge.proofs.Replaying.{replayed_lawful}
-use Rattle.logtext.specs.declared.Seen.{Seen}
-use Rattle.logtext.specs.declared.Seen.TheVariants as seen
 use Rattle.records.specs.Records.{record_of}
-use Rattle.logtext.specs.Scans.{seen_at}
+use Rattle.logtext.specs.Scans.{Seen, seen_at}
 use Rattle.judgetext.specs.declared.Held.{Held}
 use Rattle.judgetext.specs.declared.Held.TheVariants.{Nothing, Kind, Stamp, Class}
 use Rattle.judgetext.specs.declared.Progress.{Progress}
@@ -26,9 +24,9 @@ module _ (h next : History) (law : Lawful h) where
   takes_lawful (Class kind stamp class) at n after p = replayed_lawful h law (record_of kind stamp class n) p.found next p.replayed
 
   pub byte_lawful : (s : Seen) (at : Progress) (b : ℕ) (after : Progress) → ReadsSeen h s at b after next → Lawful next
-  byte_lawful seen.Nothing at b after p = rw p.1 law
-  byte_lawful (seen.Ended n) at b after p = takes_lawful at.held (moved at b) n after p
-  byte_lawful seen.NotANumber at b after p = rw p.1 law
+  byte_lawful (Ok None) at b after p = rw p.1 law
+  byte_lawful (Ok (Some n)) at b after p = takes_lawful at.held (moved at b) n after p
+  byte_lawful (Err why) at b after p = rw p.1 law
 
 -- the bytes before that place have led from h to the history that the arrays show: what is left decides
 pub record Onward (h : History) (at : Progress) (text : List ℕ) (i : ℕ) (here : Progress) (m l : List ℕ) : Type 0 where

@@ -10,8 +10,7 @@ use Rattle.judge.specs.declared.Finding.{Finding}
 use Rattle.judge.specs.declared.Finding.TheVariants as finding
 use Rattle.judge.specs.Judging.{holds}
 use Rattle.judge.specs.declared.Judgement.TheVariants.{Accepted, Malformed}
-use Rattle.logtext.specs.declared.Seen.{Seen}
-use Rattle.logtext.specs.Scans.{seen_at}
+use Rattle.logtext.specs.Scans.{Seen, seen_at}
 use Rattle.judgetext.specs.declared.Held.{Held}
 use Rattle.judgetext.specs.declared.Held.TheVariants.{Nothing, Kind, Stamp, Class}
 use Rattle.judgetext.specs.declared.Standing.{Standing}

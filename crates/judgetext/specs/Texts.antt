@@ -1,6 +1,6 @@
 -- How far the text of a log is judged, and what a byte of it changes.
 -- Assumes nothing.
-use Rattle.std.specs.Prelude.{◌≡◌, ℕ, ◌+◌, ◌%◌, ◌^◌, Bool, true, false, List, [], ◌∷◌}
+use Rattle.std.specs.Prelude.{◌≡◌, ℕ, ◌+◌, ◌%◌, ◌^◌, Bool, true, false, List, [], ◌∷◌, None, Some, Ok, Err}
 use Rattle.rules.specs.Calls.{History}
 use Rattle.records.specs.Records.{record_of}
 use Rattle.judge.specs.declared.Finding.{Finding}
@@ -9,9 +9,7 @@ use Rattle.judge.specs.declared.Finding.TheVariants as finding
 use Rattle.judge.specs.declared.Judgement.{Judgement}
 use Rattle.judge.specs.declared.Judgement.TheVariants.{Accepted, Malformed}
 use Rattle.judge.specs.Judging.{RecordReplayed, judgement_at}
-use Rattle.logtext.specs.declared.Seen.{Seen}
-use Rattle.logtext.specs.declared.Seen.TheVariants as seen
-use Rattle.logtext.specs.Scans.{before_text, seen_at, stepped}
+use Rattle.logtext.specs.Scans.{Seen, before_text, seen_at, stepped}
 use Rattle.judgetext.specs.declared.Held.{Held}
 use Rattle.judgetext.specs.declared.Held.TheVariants.{Nothing, Kind, Stamp, Class}
 use Rattle.judgetext.specs.declared.Standing.{Standing}
@@ -78,9 +76,9 @@ Takes h at n after next = TakesTo h at.held at n after next
 
 -- a byte more, by what it shows
 abbrev pub ReadsSeen : History → Seen → Progress → ℕ → Progress → History → Type 0
-ReadsSeen h seen.Nothing at b after next = (after ≡ moved at b) × (next ≡ h)
-ReadsSeen h (seen.Ended n) at b after next = Takes h (moved at b) n after next
-ReadsSeen h seen.NotANumber at b after next = (after ≡ stuck at at.scan.line) × (next ≡ h)
+ReadsSeen h (Ok None) at b after next = (after ≡ moved at b) × (next ≡ h)
+ReadsSeen h (Ok (Some n)) at b after next = Takes h (moved at b) n after next
+ReadsSeen h (Err why) at b after next = (after ≡ stuck at at.scan.line) × (next ≡ h)
 
 abbrev pub ReadsByte : History → Progress → ℕ → Progress → History → Type 0
 ReadsByte h at b after next = ReadsSeen h (seen_at at.scan b) at b after next

@@ -8,8 +8,7 @@ use Rattle.rules.specs.Answers.{Starts}
 use Rattle.judge.specs.declared.Judgement.TheVariants.{Accepted}
 use Rattle.judge.specs.Judging.{Judges}
 use Rattle.judge.specs.Theorems.{Logs}
-use Rattle.logtext.specs.declared.Seen.TheVariants as seen
-use Rattle.logtext.specs.Scans.{before_text, seen_at}
+use Rattle.logtext.specs.Scans.{not_a_number, before_text, seen_at}
 use Rattle.logtext.specs.Texts.{numbers_of, scan_over, is_well}
 use Rattle.judgetext.specs.declared.Standing.{Standing}
 use Rattle.judgetext.specs.declared.Standing.TheVariants.{Right, Wrong, NotANumber}
@@ -29,7 +28,7 @@ pub record UpTo (h : History) (text : List ℕ) (line : ℕ) (next : History) : 
   pub rest : List ℕ
   pub text_is : text ≡ front ++ (byte ∷ rest)
   pub well : is_well before_text front ≡ true
-  pub no_number : seen_at (scan_over before_text front) byte ≡ seen.NotANumber
+  pub no_number : seen_at (scan_over before_text front) byte ≡ not_a_number
   pub line_is : line ≡ (scan_over before_text front).line
   pub whole : List ℕ
   pub begun : List ℕ

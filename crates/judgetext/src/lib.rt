@@ -9,7 +9,7 @@ ghost use Rattle.judgetext.specs.Texts.{before_log, is_right, holding, completed
 ghost use Rattle.judgetext.specs.Promises.{NumberRight, ByteRight, TextRight};
 
 use judge::{Finding, Judgement};
-use logtext::{Scan, Seen};
+use logtext::{NotANumber, Scan};
 use state::table::{Lengths, Words};
 
 // The numbers of a record that is begun.
@@ -42,7 +42,7 @@ pub struct Progress {
 pub fn before() -> Progress
     ensures { result ≡ before_log }
 {
-    let scan = logtext::before();
+    let scan = Scan::before();
     Progress {
         scan,
         records: 0,
@@ -103,10 +103,10 @@ fn read(words: &mut Words, lengths: &mut Lengths, at: Progress, b: u8) -> Progre
     ensures reached { Reached words.new lengths.new }
 {
     let scan = at.scan;
-    match logtext::see(scan, b) {
-        Seen::Nothing => step(at, b),
-        Seen::Ended(n) => take(words, lengths, step(at, b), n),
-        Seen::NotANumber => stop(at, scan.line),
+    match scan.see(b) {
+        Ok(None) => step(at, b),
+        Ok(Some(n)) => take(words, lengths, step(at, b), n),
+        Err(NotANumber) => stop(at, scan.line),
     }
 }
 
@@ -139,7 +139,7 @@ fn take(words: &mut Words, lengths: &mut Lengths, at: Progress, n: u32) -> Progr
 fn step(at: Progress, b: u8) -> Progress
     ensures { result ≡ moved at b }
 {
-    let scan = logtext::step(at.scan, b);
+    let scan = at.scan.step(b);
     let held = at.held;
     let standing = at.standing;
     Progress {

@@ -14,7 +14,6 @@ use std::io;
 use std::rt::{Env, Files};
 use tree::Tree;
 use turns::Read;
-use wording::Operand;
 
 fn main(rt: HostRuntime) {
     let status = run(&rt);
@@ -27,8 +26,7 @@ fn run(rt: &(impl Env + Files + Print + Eprint)) -> Status {
     }
     let mut word = [0u8; ARGUMENT];
     let n = console::word(rt, 2, &mut word);
-    let operand = wording::number(&word[..n]);
-    let Operand::Of(first) = operand else {
+    let Ok(first) = wording::number(&word[..n]) else {
         return console::usage(rt, b"judge: FIRST is not a number of 32 bits\n");
     };
     judge_from(rt, first)

@@ -1,3 +1,4 @@
+pub mod Steps
 pub mod Turns
 pub mod WordBytes
 pub mod WordReads

@@ -1,11 +1,10 @@
 -- The line of a record reads as its four numbers.
 -- Assumes nothing.
-use Rattle.std.proofs.Common.{◌≡◌, ℕ, ◌-◌, ◌^◌, ◌<◌, Bool, true, false, cond, List, [], ◌∷◌, ◌++◌, refl, ◌∙◌, append_assoc, lt-ltb}
+use Rattle.std.proofs.Common.{◌≡◌, ℕ, ◌-◌, ◌^◌, ◌<◌, Bool, true, false, cond, List, [], ◌∷◌, ◌++◌, Ok, refl, ◌∙◌, append_assoc, lt-ltb}
 use Rattle.wording.specs.Letters.{space, line_feed}
 use Rattle.wording.specs.Words.{is_plain, every, Plain}
 use Rattle.wording.specs.Decimal.{decimal}
 use Rattle.wording.specs.Numbers.{is_digit, number_of}
-use Rattle.wording.specs.declared.Operand.TheVariants.{Of}
 use Rattle.wording.proofs.Plain.{both, decimal_plain}
 use Rattle.wording.proofs.Decimals.{decimal_some}
 use Rattle.wording.proofs.ReadBack.{decimal_reads}
@@ -40,7 +39,7 @@ module _ (line n end : ℕ) (after : Scan) (small : n < 2 ^ 32) (ends : is_plain
   number_reads : Reads (between line) (decimal n ++ (end ∷ [])) (n ∷ []) after
   unfolding scan_over
   number_reads =
-      let read : number_of (decimal n) ≡ Of n = decimal_reads n ∙ rw (lt-ltb n (2 ^ 32) small) in
+      let read : number_of (decimal n) ≡ Ok n = decimal_reads n ∙ rw (lt-ltb n (2 ^ 32) small) in
       let shows = word_reads line (decimal n) end (decimal_plain n) (decimal_some n) ends in
       let on = over_word_lem line (between line) (decimal n) (decimal_plain n) (record { n = 0; leads = (at_start line).leads }) in
       record {

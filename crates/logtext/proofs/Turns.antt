@@ -1,12 +1,10 @@
 -- A text that comes in turns is scanned as it would be whole.
 -- Assumes nothing.
-use Rattle.std.proofs.Common.{◌≡◌, ℕ, Bool, true, ◌&&◌, List, [], ◌∷◌, ◌++◌, sym, refl, ap, ◌∙◌}
+use Rattle.std.proofs.Common.{◌≡◌, ℕ, Bool, true, ◌&&◌, List, [], ◌∷◌, ◌++◌, None, Some, Ok, Err, sym, refl, ap, ◌∙◌}
 use mathlib.Core.Bool.{and_assoc, false≢true}
 use Rattle.wording.proofs.Plain.{both}
 use Rattle.logtext.specs.declared.Scan.{Scan}
-use Rattle.logtext.specs.declared.Seen.{Seen}
-use Rattle.logtext.specs.declared.Seen.TheVariants.{Nothing, Ended, NotANumber}
-use Rattle.logtext.specs.Scans.{seen_at, stepped}
+use Rattle.logtext.specs.Scans.{Seen, seen_at, stepped}
 use Rattle.logtext.specs.Texts.{with_seen, is_no_error, numbers_of, scan_over, is_well}
 use Rattle.logtext.specs.Theorems.{InTurns, Reads}
 
@@ -17,9 +15,9 @@ over_turns scan (x ∷ a) b = over_turns (stepped scan x) a b
 
 -- what a byte shows, before what comes after it
 shown_more : (seen : Seen) (ns ms others : List ℕ) → is_no_error seen ≡ true → ns ≡ ms ++ others → with_seen seen ns ≡ with_seen seen ms ++ others
-shown_more Nothing ns ms others h e = e
-shown_more (Ended n) ns ms others h e = ap (λ (l : List ℕ). n ∷ l) e
-shown_more NotANumber ns ms others h e = absurd (false≢true h)
+shown_more (Ok None) ns ms others h e = e
+shown_more (Ok (Some n)) ns ms others h e = ap (λ (l : List ℕ). n ∷ l) e
+shown_more (Err why) ns ms others h e = absurd (false≢true h)
 
 well_turns : (scan : Scan) (a b : List ℕ) → is_well scan (a ++ b) ≡ (is_well scan a && is_well (scan_over scan a) b)
 unfolding is_well scan_over

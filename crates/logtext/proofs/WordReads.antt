@@ -1,27 +1,24 @@
 -- A word, up to a byte that no word has, shows the number that it is.
 -- Assumes nothing.
-use Rattle.std.proofs.Common.{◌≡◌, ℕ, ◌+◌, ◌-◌, ◌*◌, Bool, true, false, cond, List, [], ◌∷◌, ◌++◌, refl, ◌∙◌, arith}
+use Rattle.std.proofs.Common.{◌≡◌, ℕ, ◌+◌, ◌-◌, ◌*◌, Bool, true, false, cond, List, [], ◌∷◌, ◌++◌, None, Ok, refl, ◌∙◌, arith}
 use mathlib.Core.Bool.{and-true}
 use Rattle.wording.specs.Words.{is_plain, every, Plain}
-use Rattle.wording.specs.Numbers.{only_if, is_digit, number_from, number_of}
-use Rattle.wording.specs.declared.Operand.{Operand}
+use Rattle.wording.specs.Numbers.{Operand, only_if, is_digit, number_from, number_of}
 use Rattle.wording.proofs.Plain.{both}
 use Rattle.wording.proofs.Digits.{number_capped}
 use Rattle.logtext.specs.declared.Kind.TheVariants.{Digit, Other}
 use Rattle.logtext.specs.declared.Scan.{Scan}
-use Rattle.logtext.specs.declared.Seen.{Seen}
-use Rattle.logtext.specs.declared.Seen.TheVariants.{Nothing, NotANumber}
-use Rattle.logtext.specs.Scans.{kind_of, shown, shown_between, shown_in, seen_at, longer, between, in_number, onward, stepped}
+use Rattle.logtext.specs.Scans.{Seen, not_a_number, kind_of, shown, shown_between, shown_in, seen_at, longer, between, in_number, onward, stepped}
 use Rattle.logtext.specs.Texts.{is_no_error, numbers_of, is_well}
 use Rattle.logtext.specs.Theorems.{WordShown, WordReads}
 use Rattle.logtext.proofs.WordBytes.{plain_kind, ends_number}
 
 -- a byte that shows nothing yet, one that is an error, and the last
-shows_on : {scan : Scan} {b : ℕ} {s : List ℕ} {seen : Seen} → seen_at scan b ≡ Nothing → WordShown (stepped scan b) s seen → WordShown scan (b ∷ s) seen
+shows_on : {scan : Scan} {b : ℕ} {s : List ℕ} {seen : Seen} → seen_at scan b ≡ Ok None → WordShown (stepped scan b) s seen → WordShown scan (b ∷ s) seen
 unfolding numbers_of is_well
 shows_on e p = record { numbers = rw e p.numbers; well = rw e p.well }
 
-shows_error : {scan : Scan} {b : ℕ} {s : List ℕ} → seen_at scan b ≡ NotANumber → WordShown scan (b ∷ s) NotANumber
+shows_error : {scan : Scan} {b : ℕ} {s : List ℕ} → seen_at scan b ≡ not_a_number → WordShown scan (b ∷ s) not_a_number
 unfolding numbers_of is_well
 shows_error e = record { numbers = rw e; well = rw e }
 

@@ -1,16 +1,14 @@
 -- The numbers of a log's text, as docs/FORMS.md sets them down.
 -- Assumes nothing.
-use Rattle.std.specs.Prelude.{ℕ, Bool, true, false, ◌&&◌, List, [], ◌∷◌}
+use Rattle.std.specs.Prelude.{ℕ, Bool, true, false, ◌&&◌, List, [], ◌∷◌, None, Some, Ok, Err}
 use Rattle.logtext.specs.declared.Scan.{Scan}
-use Rattle.logtext.specs.declared.Seen.{Seen}
-use Rattle.logtext.specs.declared.Seen.TheVariants.{Nothing, Ended, NotANumber}
-use Rattle.logtext.specs.Scans.{seen_at, stepped}
+use Rattle.logtext.specs.Scans.{Seen, seen_at, stepped}
 
 -- what a byte shows, and then the numbers of what comes after it; a word that is no number ends them
 abbrev pub with_seen : Seen → List ℕ → List ℕ
-with_seen Nothing others = others
-with_seen (Ended n) others = n ∷ others
-with_seen NotANumber others = []
+with_seen (Ok None) others = others
+with_seen (Ok (Some n)) others = n ∷ others
+with_seen (Err why) others = []
 
 -- the numbers that bytes show, from a scan on
 unfoldable pub numbers_of : Scan → List ℕ → List ℕ
@@ -24,9 +22,9 @@ scan_over scan (b ∷ s) = scan_over (stepped scan b) s
 
 -- whether no byte shows a word that is no number
 abbrev pub is_no_error : Seen → Bool
-is_no_error Nothing = true
-is_no_error (Ended n) = true
-is_no_error NotANumber = false
+is_no_error (Ok None) = true
+is_no_error (Ok (Some n)) = true
+is_no_error (Err why) = false
 
 unfoldable pub is_well : Scan → List ℕ → Bool
 is_well scan [] = true

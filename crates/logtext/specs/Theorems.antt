@@ -6,8 +6,7 @@ use Rattle.wording.specs.Words.{Plain, is_plain}
 use Rattle.wording.specs.Decimal.{decimal}
 use Rattle.wording.specs.Numbers.{number_of}
 use Rattle.logtext.specs.declared.Scan.{Scan}
-use Rattle.logtext.specs.declared.Seen.{Seen}
-use Rattle.logtext.specs.Scans.{shown, next_line, between}
+use Rattle.logtext.specs.Scans.{Seen, shown, next_line, between}
 use Rattle.logtext.specs.Texts.{with_seen, is_no_error, numbers_of, scan_over, is_well}
 
 -- a text that comes in turns is scanned as it would be whole: `in_turns`

@@ -3,33 +3,29 @@
 #![tactic(auto)]
 
 ghost use Rattle.std.specs.Prelude.{◌≡◌};
-ghost use Rattle.logtext.specs.Scans.{kind_of, shown, shown_between, shown_in, seen_at, before_text, longer, next_line, between, onward, passed, stepped};
+ghost use Rattle.logtext.specs.Scans.{kind_of, shown, longer};
+ghost use Rattle.wording.specs.Numbers.{narrowed};
 
-use wording::{Operand, capped, is_blank, narrow, wide};
+use wording::{capped, is_blank, narrow};
 
-// Where in the text a scan is.
+// Where in the text a scan is: between two numbers, in one whose digits so far make a value, or in a comment.
 #[derive(Clone, Copy)]
 pub enum Place {
     Between,
-    Number,
+    Number { value: u64 },
     Comment,
 }
 
-// How far a scan has come: its line, counted from 1, the place in it, and the number that its digits so far make.
+// How far a scan has come: its line, counted from 1, and the place in it.
 #[derive(Clone, Copy)]
 pub struct Scan {
     pub line: u64,
     pub place: Place,
-    pub value: u64,
 }
 
-// What a byte shows: nothing yet, a number that ends before it, or a word that is no number.
-#[derive(Clone, Copy)]
-pub enum Seen {
-    Nothing,
-    Ended(u32),
-    NotANumber,
-}
+// A word that is no number of 32 bits.
+#[derive(Clone, Copy, PartialEq, Eq)]
+pub struct NotANumber;
 
 // A kind of byte: a digit, white space, the end of a line, what starts a comment, and what no number has.
 #[derive(Clone, Copy)]
@@ -41,160 +37,91 @@ enum Kind {
     Other,
 }
 
-// The scan of a text of which nothing was seen yet.
-pub fn before() -> Scan
-    ensures { result ≡ before_text }
-{
-    Scan {
-        line: 1,
-        place: Place::Between,
-        value: 0,
-    }
-}
+impl Scan {
+    ghost use Rattle.logtext.specs.Scans.{seen_at, before_text, stepped};
 
-// What the next byte shows.
-pub fn see(scan: Scan, b: u8) -> Seen
-    ensures { result ≡ seen_at scan b }
-{
-    let place = scan.place;
-    match place {
-        Place::Between => see_between(told(b)),
-        Place::Number => see_in(scan.value, told(b)),
-        Place::Comment => Seen::Nothing,
+    // The scan of a text of which nothing was seen yet.
+    pub fn before() -> Scan
+        ensures { result ≡ before_text }
+    {
+        Scan {
+            line: 1,
+            place: Place::Between,
+        }
     }
-}
 
-// The scan after the next byte.
-pub fn step(scan: Scan, b: u8) -> Scan
-    ensures { result ≡ stepped scan b }
-{
-    let place = scan.place;
-    match place {
-        Place::Between => go_on(scan.line, 0, told(b)),
-        Place::Number => go_on(scan.line, scan.value, told(b)),
-        Place::Comment => pass(scan.line, b),
+    // What the next byte shows: nothing yet, or a number that ends before it.
+    #[tactic(auto, unfolding(crate::specs::Scans::seen_at))]
+    pub fn see(self, b: u8) -> Result<Option<u32>, NotANumber>
+        ensures { result ≡ seen_at self b }
+    {
+        match (self.place, told(b)) {
+            (Place::Comment, _) => Ok(None),
+            (_, Kind::Other) => Err(NotANumber),
+            (Place::Number { value }, Kind::Blank | Kind::LineEnd | Kind::Hash) => ended(value),
+            _ => Ok(None),
+        }
+    }
+
+    // The scan after the next byte. No text has 2^64 lines.
+    #[tactic(auto, using(crate::proofs::Steps::leads, crate::proofs::Steps::ends_by), unfolding(crate::specs::Scans::next_line))]
+    pub fn step(self, b: u8) -> Scan
+        ensures { result ≡ stepped self b }
+    {
+        match (self.place, told(b)) {
+            (_, Kind::LineEnd) => Scan {
+                line: self.line.wrapping_add(1),
+                place: Place::Between,
+            },
+            (Place::Comment, _) | (_, Kind::Hash) => Scan {
+                place: Place::Comment,
+                ..self
+            },
+            (Place::Number { value }, Kind::Digit(digit)) => Scan {
+                place: Place::Number {
+                    value: lengthen(value, digit),
+                },
+                ..self
+            },
+            (Place::Between, Kind::Digit(digit)) => Scan {
+                place: Place::Number {
+                    value: lengthen(0, digit),
+                },
+                ..self
+            },
+            _ => Scan {
+                place: Place::Between,
+                ..self
+            },
+        }
     }
 }
 
 // Which kind a byte is; a digit with its worth.
+#[tactic(auto, unfolding(crate::specs::Scans::kind_of))]
 fn told(b: u8) -> Kind
     ensures { result ≡ kind_of b }
 {
-    if b == b'\n' {
-        return Kind::LineEnd;
-    }
-    if b == b'#' {
-        return Kind::Hash;
-    }
-    if is_blank(b) {
-        return Kind::Blank;
-    }
-    if b < 48 {
-        return Kind::Other;
-    }
-    if 57 < b {
-        return Kind::Other;
-    }
-    Kind::Digit(b - 48)
-}
-
-// What a byte shows between two numbers.
-fn see_between(kind: Kind) -> Seen
-    ensures { result ≡ shown_between kind }
-{
-    match kind {
-        Kind::Other => Seen::NotANumber,
-        Kind::Digit(digit) => Seen::Nothing,
-        Kind::Blank => Seen::Nothing,
-        Kind::LineEnd => Seen::Nothing,
-        Kind::Hash => Seen::Nothing,
+    match b {
+        b'\n' => Kind::LineEnd,
+        b'#' => Kind::Hash,
+        _ if is_blank(b) => Kind::Blank,
+        b'0'..=b'9' => Kind::Digit(b - b'0'),
+        _ => Kind::Other,
     }
 }
 
-// What a byte shows after digits that make a number.
-fn see_in(value: u64, kind: Kind) -> Seen
-    ensures { result ≡ shown_in value kind }
+// The number that digits have made, or a word that is none.
+fn ended(value: u64) -> Result<Option<u32>, NotANumber>
+    ensures { result ≡ shown (narrowed value) }
 {
-    match kind {
-        Kind::Digit(digit) => Seen::Nothing,
-        Kind::Other => Seen::NotANumber,
-        Kind::Blank => ended(narrow(value)),
-        Kind::LineEnd => ended(narrow(value)),
-        Kind::Hash => ended(narrow(value)),
-    }
-}
-
-// A number that its digits have made, or a word that is none.
-fn ended(operand: Operand) -> Seen
-    ensures { result ≡ shown operand }
-{
-    match operand {
-        Operand::Of(n) => Seen::Ended(n),
-        Operand::TooLarge => Seen::NotANumber,
-        Operand::NotANumber => Seen::NotANumber,
-    }
-}
-
-// The scan after a byte that stands in no comment, after digits that make a number, or after none.
-fn go_on(line: u64, value: u64, kind: Kind) -> Scan
-    ensures { result ≡ onward line value kind }
-{
-    match kind {
-        Kind::Digit(digit) => Scan {
-            line,
-            place: Place::Number,
-            value: lengthen(value, digit),
-        },
-        Kind::Hash => Scan {
-            line,
-            place: Place::Comment,
-            value: 0,
-        },
-        Kind::LineEnd => next_line(line),
-        Kind::Blank => Scan {
-            line,
-            place: Place::Between,
-            value: 0,
-        },
-        Kind::Other => Scan {
-            line,
-            place: Place::Between,
-            value: 0,
-        },
-    }
-}
-
-// The scan after a byte of a comment.
-fn pass(line: u64, b: u8) -> Scan
-    ensures { result ≡ passed line b }
-{
-    if b == b'\n' {
-        return next_line(line);
-    }
-    Scan {
-        line,
-        place: Place::Comment,
-        value: 0,
-    }
-}
-
-// The scan at the start of the next line. No text has 2^64 lines.
-fn next_line(line: u64) -> Scan
-    ensures { result ≡ between (next_line line) }
-{
-    Scan {
-        line: std::num::wrapping_add_u64(line, 1),
-        place: Place::Between,
-        value: 0,
-    }
+    narrow(value).map(Some).map_err(|_| NotANumber)
 }
 
 // A number with one digit more. 2^32 stands for every number past 32 bits, so that digits without end do not wrap.
+#[tactic(auto, unfolding(crate::specs::Scans::longer))]
 fn lengthen(value: u64, digit: u8) -> u64
     ensures { result ≡ longer value digit }
 {
-    if 4294967295 < value {
-        return 4294967296;
-    }
-    capped(10 * value + wide(digit))
+    capped(value.saturating_mul(10).saturating_add(u64::from(digit)))
 }

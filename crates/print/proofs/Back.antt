@@ -1,5 +1,6 @@
 -- An answer is found again from the words of its line.
 -- Assumes nothing.
+use Rattle.std.specs.Prelude.{Option, Some}
 use Prim.Native.Nat.{ℕ, ◌+◌, ◌-◌, ◌*◌, ◌/◌}
 use mathlib.Core.Path.{◌≡◌, refl}
 use mathlib.Core.Bool.{Bool, cond}
@@ -18,7 +19,6 @@ use Rattle.tree.specs.Numbers.{number_of}
 use Rattle.rules.specs.declared.Rule.{Rule}
 use Rattle.rules.specs.declared.Rule.TheVariants.{RealTime, Fair}
 use Rattle.rules.specs.declared.Times.{Times}
-use Rattle.rules.specs.declared.Times.TheVariants.{Untimed, Timed}
 use Rattle.print.specs.declared.Wrong.{Wrong}
 use Rattle.print.specs.declared.Wrong.TheVariants.{NotACall, NotAClass, NotANumber, TooLarge, StartFirst, StartedAlready, TreeFirst, NextClass}
 use Rattle.print.specs.declared.Answer.{Answer}
@@ -62,14 +62,14 @@ unfolding rule_of
 rule_back RealTime = refl
 rule_back Fair = refl
 
-times_of : List (List ℕ) → Times
-times_of [] = Untimed
-times_of (w ∷ ws) = Timed (number ws 0) (number ws 2)
+times_of : List (List ℕ) → Option Times
+times_of [] = Option.None
+times_of (w ∷ ws) = Some (record { eligible = number ws 0; deadline = number ws 2 })
 
-times_back : (t : Times) → times_of (words_of_times t) ≡ t
+times_back : (t : Option Times) → times_of (words_of_times t) ≡ t
 unfolding times_of
-times_back Untimed = refl
-times_back (Timed eligible deadline) = simp read_back
+times_back Option.None = refl
+times_back (Some times) = simp read_back
 
 curve_of : List (List ℕ) → Curve
 curve_of ws =

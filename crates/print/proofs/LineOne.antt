@@ -1,5 +1,6 @@
 -- Two answers with the same line are equal.
 -- Assumes nothing.
+use Rattle.std.specs.Prelude.{Option, Some}
 use Prim.Native.Nat.{ℕ}
 use mathlib.Core.Path.{◌≡◌, refl, sym, ap, ap₂, ◌∙◌}
 use mathlib.Core.Bool.{true}
@@ -13,7 +14,6 @@ use Rattle.tree.proofs.Numbers.{refusal_by_number}
 use Rattle.rules.specs.declared.Rule.{Rule}
 use Rattle.rules.specs.declared.Rule.TheVariants.{RealTime, Fair}
 use Rattle.rules.specs.declared.Times.{Times}
-use Rattle.rules.specs.declared.Times.TheVariants.{Untimed, Timed}
 use Rattle.print.specs.declared.Wrong.{Wrong}
 use Rattle.print.specs.declared.Wrong.TheVariants.{NotACall, NotAClass, NotANumber, TooLarge, StartFirst, StartedAlready, TreeFirst, NextClass}
 use Rattle.print.specs.declared.Answer.{Answer}
@@ -28,9 +28,9 @@ plain_rule : (r : Rule) → every is_plain (word_of_rule r) ≡ true
 plain_rule RealTime = refl
 plain_rule Fair = refl
 
-plain_times : (t : Times) → plains (words_of_times t) ≡ true
-plain_times Untimed = refl
-plain_times (Timed eligible deadline) = simp decimal_plain
+plain_times : (t : Option Times) → plains (words_of_times t) ≡ true
+plain_times Option.None = refl
+plain_times (Some times) = simp decimal_plain
 
 plain_curve : (k : Curve) → plains (words_of_curve k) ≡ true
 plain_curve None = refl

@@ -2,18 +2,23 @@
 -- Assumes nothing.
 use Prim.Native.Nat.{ℕ, suc, ◌+◌, ◌<◌, ◌≤◌}
 use mathlib.Core.Path.{◌≡◌, refl, sym, ap, ◌∙◌}
-use mathlib.Core.List.{List, [], ◌∷◌, ◌++◌}
+use mathlib.Core.List.{List, [], ◌∷◌, ◌++◌, append_assoc}
 use native.Mathlib.Nat.{add-zero, suc-add, add-suc}
 use native.Mathlib.Omega.{arith}
 use native.Mathlib.Numerals.{add-one}
-use lib.ListN.{length, set, take, get_or, length-append}
-use lib.Seq.{sets, set_comm, take-suc, length-take-le}
+use lib.ListN.{length, set, take, drop, length-append}
+use lib.Seq.{sets, sets-eq, set_comm, drop-drop, length-sets, length-take-le}
+use borrow.Rule.Slice.PartMut.{put_mid}
 use Rattle.print.specs.Promises.{Printed, Within}
 
 -- one run of stores, and then the next, is one run of both
 pub sets_append : (xs ys l : List ℕ) (i : ℕ) → sets (sets l i xs) (i + length xs) ys ≡ sets l i (xs ++ ys)
 sets_append [] ys l i = rw add-zero
 sets_append (x ∷ xs) ys l i = rw (add-suc, ← suc-add) (sets_append xs ys (set l i x) (suc i))
+
+-- a part that was lent, and has come back, is a run at its place
+pub sets_part : (l : List ℕ) (at n : ℕ) (vs : List ℕ) → length vs ≡ n → at + n ≤ length l → put_mid at n l vs ≡ sets l at vs
+sets_part l at n vs same fits = rw drop-drop (sym (sets-eq vs l at (omega arith) ∙ rw same (append_assoc (take at l) vs (drop (at + n) l))))
 
 -- a store before a run may come before it in time
 set_before : (vs l : List ℕ) (i j v : ℕ) → i < j → set (sets l j vs) i v ≡ sets (set l i v) j vs
@@ -46,11 +51,3 @@ then {o} {o₁} {o₂} {xs} {ys} {at} {r₁} {r₂} p q =
 -- a print of bytes that are equal
 pub same_as : {o o₁ xs ys : List ℕ} {at r : ℕ} → xs ≡ ys → Printed o at ys o₁ r → Printed o at xs o₁ r
 same_as {o} {o₁} {xs} {ys} {at} {r} e p = rw e p
-
--- one byte more of a word, after those before it
-pub store_next : (word old new : List ℕ) (at i : ℕ) → i < length word → new ≡ sets old at (take i word) → set new (at + i) (get_or word i 0) ≡ sets old at (take (i + 1) word)
-store_next word old new at i h e =
-    ap (λ (l : List ℕ). set l (at + i) (get_or word i 0)) e
-    ∙ ap (λ (k : ℕ). set (sets old at (take i word)) (at + k) (get_or word i 0)) (sym (length-take-le i word (omega arith)))
-    ∙ sets_append (take i word) (get_or word i 0 ∷ []) old at
-    ∙ ap (λ (s : List ℕ). sets old at s) (sym (take-suc word i 0 h) ∙ ap (λ (k : ℕ). take k word) (sym (add-one i)))

@@ -1,23 +1,18 @@
 -- The line of an answer, as docs/FORMS.md sets it down: its words, each set off by a space, and the line's end.
 -- Assumes nothing.
-use Rattle.std.specs.Prelude.{ℕ, zero, suc, min, List, [], ◌∷◌, ◌++◌}
+use Rattle.rules.specs.Kinds.{Arrival, Departure}
+use Rattle.std.specs.Prelude.{ℕ, zero, suc, min, List, [], ◌∷◌, ◌++◌, Option, Some, Ok, Err}
 use Rattle.wording.specs.Letters.{colon, space, line_feed}
 use Rattle.wording.specs.Decimal.{decimal}
 use Rattle.curve.specs.declared.Curve.{Curve}
 use Rattle.curve.specs.declared.Curve.TheVariants.{None, Straight, FrontLoaded, Delayed}
 use Rattle.tree.specs.declared.Tree.{Tree}
-use Rattle.tree.specs.declared.Verdict.{Verdict}
-use Rattle.tree.specs.declared.Verdict.TheVariants as verdict
+use Rattle.tree.specs.Verdicts.{Verdict}
 use Rattle.tree.specs.Numbers.{number_of}
 use Rattle.tree.specs.Trees.{most_classes, class_at}
 use Rattle.rules.specs.declared.Rule.{Rule}
 use Rattle.rules.specs.declared.Rule.TheVariants.{RealTime, Fair}
 use Rattle.rules.specs.declared.Times.{Times}
-use Rattle.rules.specs.declared.Times.TheVariants.{Untimed, Timed}
-use Rattle.rules.specs.declared.Arrival.{Arrival}
-use Rattle.rules.specs.declared.Arrival.TheVariants as arrival
-use Rattle.rules.specs.declared.Departure.{Departure}
-use Rattle.rules.specs.declared.Departure.TheVariants as departure
 use Rattle.print.specs.declared.Wrong.{Wrong}
 use Rattle.print.specs.declared.Wrong.TheVariants.{NotACall, NotAClass, NotANumber, TooLarge, StartFirst, StartedAlready, TreeFirst, NextClass}
 use Rattle.print.specs.declared.Answer.{Answer}
@@ -30,9 +25,9 @@ word_of_rule RealTime = real_time_word
 word_of_rule Fair = fair_word
 
 -- "`eligible` and `deadline` stand there for a leaf with a real-time curve"
-abbrev pub words_of_times : Times → List (List ℕ)
-words_of_times Untimed = []
-words_of_times (Timed eligible deadline) = eligible_word ∷ decimal eligible ∷ deadline_word ∷ decimal deadline ∷ []
+abbrev pub words_of_times : Option Times → List (List ℕ)
+words_of_times Option.None = []
+words_of_times (Some times) = eligible_word ∷ decimal times.eligible ∷ deadline_word ∷ decimal times.deadline ∷ []
 
 -- "The numbers after the kind are in the file's order: straight: rate; front-loaded: first rate, bend, last rate; delayed: bend, rate."
 abbrev pub words_of_curve : Curve → List (List ℕ)
@@ -98,14 +93,14 @@ tree_text t = line_of TreeHead ++ class_lines t 0 (min t.count most_classes)
 
 -- the answer that each call's answer is printed as: a refused start names a class, a refused arrival or departure none
 abbrev pub start_answer : Verdict → ℕ → Answer
-start_answer verdict.Right count = Started count
-start_answer (verdict.Refused why class) count = TreeRefused why class
+start_answer (Ok _) count = Started count
+start_answer (Err fault) count = TreeRefused fault.why fault.class
 
 abbrev pub arrival_answer : Arrival → Answer
-arrival_answer (arrival.Accepted number) = Accepted number
-arrival_answer (arrival.Refused why) = Refused why
+arrival_answer (Ok number) = Accepted number
+arrival_answer (Err why) = Refused why
 
 abbrev pub departure_answer : Departure → Answer
-departure_answer (departure.Leaves packet) = Leaves packet
-departure_answer departure.NoneWaits = NoneWaits
-departure_answer (departure.Refused why) = Refused why
+departure_answer (Ok (Some packet)) = Leaves packet
+departure_answer (Ok Option.None) = NoneWaits
+departure_answer (Err why) = Refused why

@@ -6,8 +6,8 @@ ghost use Rattle.std.specs.Prelude.{◌≡◌, ◌≤◌};
 ghost use Rattle.print.specs.Lines.{start_answer, arrival_answer, departure_answer};
 ghost use Rattle.print.specs.Promises.{PrintsLine, PrintsTree, PrintsNumber, line_room};
 
-use rules::{Arrival, Departure, Packet};
-use tree::{Class, Refusal, Tree, Verdict};
+use rules::Packet;
+use tree::{Class, Fault, Refusal, Tree};
 
 pub mod put;
 
@@ -19,7 +19,7 @@ pub const NUMBER: usize = 21;
 pub const TEXT: usize = 12480;
 
 // What is wrong with a line of a calls file, of a tree's text or of a log.
-#[derive(Clone, Copy)]
+#[derive(Clone, Copy, PartialEq, Eq)]
 pub enum Wrong {
     NotACall,
     NotAClass,
@@ -32,7 +32,7 @@ pub enum Wrong {
 }
 
 // What is printed as a line.
-#[derive(Clone, Copy)]
+#[derive(Clone, Copy, PartialEq, Eq)]
 pub enum Answer {
     Started { count: u32 },
     TreeRefused { why: Refusal, class: u32 },
@@ -68,30 +68,30 @@ pub fn number(n: u64, out: &mut [u8; NUMBER]) -> usize
 }
 
 // The answer that a start with a tree of so many classes is printed as.
-pub fn start(verdict: Verdict, count: u32) -> Answer
+pub fn start(verdict: Result<(), Fault>, count: u32) -> Answer
     ensures { result ≡ start_answer verdict count }
 {
     match verdict {
-        Verdict::Right => Answer::Started { count },
-        Verdict::Refused { why, class } => Answer::TreeRefused { why, class },
+        Ok(()) => Answer::Started { count },
+        Err(Fault { why, class }) => Answer::TreeRefused { why, class },
     }
 }
 
-pub fn arrival(arrival: Arrival) -> Answer
+pub fn arrival(arrival: Result<u64, Refusal>) -> Answer
     ensures { result ≡ arrival_answer arrival }
 {
     match arrival {
-        Arrival::Accepted { number } => Answer::Accepted { number },
-        Arrival::Refused { why } => Answer::Refused { why },
+        Ok(number) => Answer::Accepted { number },
+        Err(why) => Answer::Refused { why },
     }
 }
 
-pub fn departure(departure: Departure) -> Answer
+pub fn departure(departure: Result<Option<Packet>, Refusal>) -> Answer
     ensures { result ≡ departure_answer departure }
 {
     match departure {
-        Departure::Leaves { packet } => Answer::Leaves { packet },
-        Departure::NoneWaits => Answer::NoneWaits,
-        Departure::Refused { why } => Answer::Refused { why },
+        Ok(Some(packet)) => Answer::Leaves { packet },
+        Ok(None) => Answer::NoneWaits,
+        Err(why) => Answer::Refused { why },
     }
 }

@@ -19,12 +19,9 @@ pub fn text(out: &mut [u8], at: usize, word: &[u8]) -> usize
     requires { at + length word.now ≤ length out.old }
     ensures { Printed out.old at word.now out.new result }
 {
-    let mut i = 0;
-    while i < word.len() {
-        out[at + i] = word[i];
-        i += 1;
-    }
-    at + i
+    let end = at + word.len();
+    out[at..end].copy_from_slice(word);
+    end
 }
 
 // How many digits a number has.
@@ -34,7 +31,7 @@ fn places(n: u64) -> usize
     let mut rest = n;
     let mut count = 1;
     while 10 <= rest {
-        rest = rest / 10;
+        rest /= 10;
         count += 1;
     }
     count
@@ -47,11 +44,9 @@ fn digits(out: &mut [u8], at: usize, count: usize, n: u64)
     ensures { out.new ≡ sets out.old at (decimal n) }
 {
     let mut rest = n;
-    let mut i = count;
-    while 0 < i {
-        i -= 1;
-        out[at + i] = (48 + rest % 10) as u8;
-        rest = rest / 10;
+    for i in (0..count).rev() {
+        out[at + i] = b'0' + (rest % 10) as u8;
+        rest /= 10;
     }
 }
 
@@ -103,13 +98,13 @@ fn rule(out: &mut [u8], at: usize, rule: Rule) -> usize
 }
 
 // The times of a packet, up to the end of its line.
-fn times(out: &mut [u8], at: usize, times: Times) -> usize
+fn times(out: &mut [u8], at: usize, times: Option<Times>) -> usize
     requires { at + 61 ≤ length out.old }
     ensures { Printed out.old at (further (words_of_times times)) out.new result × (result ≤ at + 61) }
 {
     match times {
-        Times::Untimed => text(out, at, b"\n"),
-        Times::Timed { eligible, deadline } => {
+        None => text(out, at, b"\n"),
+        Some(Times { eligible, deadline }) => {
             let end = named(out, at, b" eligible", eligible);
             last(out, end, b" deadline", deadline)
         }
@@ -172,10 +167,8 @@ fn leaves(out: &mut [u8], at: usize, packet: Packet) -> usize
     let class = named(out, at, b"packet class", packet.class as u64);
     let number = named(out, class, b" number", packet.number);
     let length = named(out, number, b" length", packet.length as u64);
-    let by = packet.rule;
-    let end = rule(out, length, by);
-    let timed = packet.times;
-    times(out, end, timed)
+    let end = rule(out, length, packet.rule);
+    times(out, end, packet.times)
 }
 
 // As `class 1 parent 0 share 16384 front-loaded 32768 2000 16384`.
@@ -186,8 +179,7 @@ fn class_of(out: &mut [u8], at: usize, number: u32, class: Class) -> usize
     let numbered = named(out, at, b"class", number as u64);
     let below = named(out, numbered, b" parent", class.parent as u64);
     let end = named(out, below, b" share", class.share as u64);
-    let served = class.curve;
-    curve(out, end, served)
+    curve(out, end, class.curve)
 }
 
 // As `refused 7 class 3`.

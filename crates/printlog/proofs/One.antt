@@ -3,8 +3,8 @@
 use Prim.Native.Nat.{ℕ}
 use mathlib.Core.Path.{◌≡◌, sym, ◌∙◌}
 use mathlib.Core.List.{List}
-use Rattle.records.specs.declared.Entry.{Entry}
-use Rattle.records.specs.declared.Entry.TheVariants.{Nothing, Numbers}
+use Rattle.std.specs.Prelude.{Some, None}
+use Rattle.records.specs.Records.{Entry}
 use Rattle.print.proofs.One.{printed_one}
 use Rattle.printlog.specs.declared.LogLine.{LogLine}
 use Rattle.printlog.specs.Promises.{PrintsLogLine, PrintsEntry}
@@ -13,5 +13,5 @@ pub prints_log_line_one : (line : LogLine) (old new new₂ : List ℕ) (end end�
 prints_log_line_one line old new new₂ end end₂ = printed_one
 
 pub prints_entry_one : (entry : Entry) (old new new₂ : List ℕ) (end end₂ : ℕ) → PrintsEntry entry old new end → PrintsEntry entry old new₂ end₂ → (new ≡ new₂) × (end ≡ end₂)
-prints_entry_one Nothing old new new₂ end end₂ p q = (p.0 ∙ sym q.0, p.1 ∙ sym q.1)
-prints_entry_one (Numbers kind stamp class length) old new new₂ end end₂ p q = printed_one p q
+prints_entry_one None old new new₂ end end₂ p q = (p.0 ∙ sym q.0, p.1 ∙ sym q.1)
+prints_entry_one (Some n) old new new₂ end end₂ p q = printed_one p q

@@ -1,8 +1,7 @@
 -- What is promised of a lent buffer that a log's line was printed into.
 -- Assumes nothing.
-use Rattle.std.specs.Prelude.{ℕ, ◌≡◌, List}
-use Rattle.records.specs.declared.Entry.{Entry}
-use Rattle.records.specs.declared.Entry.TheVariants.{Nothing, Numbers}
+use Rattle.std.specs.Prelude.{ℕ, ◌≡◌, List, Some, None}
+use Rattle.records.specs.Records.{Entry}
 use Rattle.print.specs.Promises.{Printed}
 use Rattle.printlog.specs.declared.LogLine.{LogLine}
 use Rattle.printlog.specs.declared.LogLine.TheVariants.{Record}
@@ -18,5 +17,5 @@ PrintsLogLine line old new end = Printed old 0 (log_line_of line) new end
 
 -- what a call leaves in the log: its record's line, or nothing
 abbrev pub PrintsEntry : Entry → List ℕ → List ℕ → ℕ → Type 0
-PrintsEntry Nothing old new end = (new ≡ old) × (end ≡ 0)
-PrintsEntry (Numbers kind stamp class length) old new end = PrintsLogLine (Record kind stamp class length) old new end
+PrintsEntry None old new end = (new ≡ old) × (end ≡ 0)
+PrintsEntry (Some n) old new end = PrintsLogLine (Record n.kind n.stamp n.class n.length) old new end

@@ -11,7 +11,7 @@ ghost use Rattle.printlog.specs.Lines.{with_colon, log_line_of};
 ghost use Rattle.printlog.specs.Promises.{PrintsLogLine, PrintsEntry, log_line_room};
 
 use print::{Answer, put};
-use records::Entry;
+use records::Numbers;
 use tree::Refusal;
 
 // Room for any line.
@@ -103,18 +103,20 @@ fn refused(out: &mut [u8], number: u64, why: Refusal) -> usize
 }
 
 // What a call leaves in the log, as a line at the front of the buffer, or nothing. The answer is where it ends.
-pub fn entry(entry: Entry, out: &mut [u8; print::LINE]) -> usize
+pub fn entry(entry: Option<Numbers>, out: &mut [u8; print::LINE]) -> usize
     ensures printed { PrintsEntry entry out.old out.new result }
     ensures within { Within result out.new × (result ≤ line_room) }
 {
     match entry {
-        Entry::Nothing => 0,
-        Entry::Numbers {
-            kind,
-            stamp,
-            class,
-            length,
-        } => numbers(out, kind, stamp, class, length),
+        None => 0,
+        Some(
+            Numbers {
+                kind,
+                stamp,
+                class,
+                length,
+            },
+        ) => numbers(out, kind, stamp, class, length),
     }
 }
 

@@ -5,7 +5,8 @@
 ghost use Rattle.std.specs.Prelude.{◌≡◌};
 ghost use Rattle.records.specs.Records.{record_of, arrival_entry, departure_entry};
 
-use rules::{Arrival, Departure};
+use rules::Packet;
+use tree::Refusal;
 
 // The kinds of a record.
 pub const ARRIVAL: u32 = 1;
@@ -15,7 +16,7 @@ pub const DEPARTURE: u32 = 2;
 pub const FOUND_EMPTY: u32 = 3;
 
 // What four numbers say.
-#[derive(Clone, Copy)]
+#[derive(Clone, Copy, PartialEq, Eq)]
 pub enum Record {
     Arrived { stamp: u32, class: u32, length: u32 },
     Departed { stamp: u32, class: u32, length: u32 },
@@ -23,79 +24,66 @@ pub enum Record {
     Malformed,
 }
 
-// What a call leaves in the log: nothing where it is refused.
-#[derive(Clone, Copy)]
-pub enum Entry {
-    Nothing,
-    Numbers {
-        kind: u32,
-        stamp: u32,
-        class: u32,
-        length: u32,
-    },
+// The four numbers of a record: what a call leaves in the log, where it is not refused.
+#[derive(Clone, Copy, PartialEq, Eq)]
+pub struct Numbers {
+    pub kind: u32,
+    pub stamp: u32,
+    pub class: u32,
+    pub length: u32,
 }
 
 pub fn record_of(kind: u32, stamp: u32, class: u32, length: u32) -> Record
     ensures { result ≡ record_of kind stamp class length }
 {
-    if kind == ARRIVAL {
-        return Record::Arrived {
-            stamp,
-            class,
-            length,
-        };
-    }
-    if kind == DEPARTURE {
-        return Record::Departed {
-            stamp,
-            class,
-            length,
-        };
-    }
-    if kind != FOUND_EMPTY {
-        return Record::Malformed;
-    }
-    if class != 0 {
-        return Record::Malformed;
-    }
-    if length != 0 {
-        return Record::Malformed;
-    }
-    Record::FoundEmpty { stamp }
-}
-
-// What an arrival with that answer leaves in the log.
-pub fn arrival(stamp: u32, class: u32, length: u32, answer: Arrival) -> Entry
-    ensures { result ≡ arrival_entry stamp class length answer }
-{
-    match answer {
-        Arrival::Accepted { number: _ } => Entry::Numbers {
-            kind: ARRIVAL,
+    match (kind, class, length) {
+        (ARRIVAL, _, _) => Record::Arrived {
             stamp,
             class,
             length,
         },
-        Arrival::Refused { why: _ } => Entry::Nothing,
+        (DEPARTURE, _, _) => Record::Departed {
+            stamp,
+            class,
+            length,
+        },
+        (FOUND_EMPTY, 0, 0) => Record::FoundEmpty { stamp },
+        _ => Record::Malformed,
     }
 }
 
+// What an arrival with that answer leaves in the log.
+pub fn arrival(stamp: u32, class: u32, length: u32, answer: Result<u64, Refusal>) -> Option<Numbers>
+    ensures { result ≡ arrival_entry stamp class length answer }
+{
+    let Ok(_) = answer else {
+        return None;
+    };
+    Some(Numbers {
+        kind: ARRIVAL,
+        stamp,
+        class,
+        length,
+    })
+}
+
 // What a departure with that answer leaves in the log.
-pub fn departure(stamp: u32, answer: Departure) -> Entry
+pub fn departure(stamp: u32, answer: Result<Option<Packet>, Refusal>) -> Option<Numbers>
     ensures { result ≡ departure_entry stamp answer }
 {
     match answer {
-        Departure::Leaves { packet } => Entry::Numbers {
+        Ok(Some(packet)) => Some(Numbers {
             kind: DEPARTURE,
             stamp,
             class: packet.class,
             length: packet.length,
-        },
-        Departure::NoneWaits => Entry::Numbers {
+        }),
+        Ok(None) => Some(Numbers {
             kind: FOUND_EMPTY,
             stamp,
             class: 0,
             length: 0,
-        },
-        Departure::Refused { why: _ } => Entry::Nothing,
+        }),
+        Err(_) => None,
     }
 }

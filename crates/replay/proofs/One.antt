@@ -1,16 +1,16 @@
 -- The promise on a line replayed allows one result: two that it allows of the same state, line and buffer are equal. What the promises on the text and on the waiting bytes
 -- allow is one by `printed_one` of `print`.
 -- Assumes nothing.
-use Rattle.std.proofs.Common.{◌≡◌, ℕ, Bool, true, false, List, sym, ap, ◌∙◌, subst}
+use Rattle.std.proofs.Common.{◌≡◌, ℕ, Bool, true, false, List, None, Some, Ok, Err, sym, ap, ◌∙◌, subst}
 use Rattle.tree.specs.declared.Tree.{Tree}
 use Rattle.tree.specs.declared.Verdict.{Verdict}
 use Rattle.rules.specs.declared.Arrival.{Arrival}
 use Rattle.rules.specs.declared.Departure.{Departure}
 use Rattle.state.specs.State.{Reached}
 use Rattle.sched.proofs.One.{start_one, arrive_one, depart_one}
-use Rattle.calls.specs.declared.Line.{Line}
-use Rattle.calls.specs.declared.Line.TheVariants.{Start, Arrive, Depart, Nothing, TooLarge, NotACall}
-use Rattle.calls.specs.Lines.{said}
+use Rattle.calls.specs.declared.Call.TheVariants.{Start, Arrive, Depart}
+use Rattle.calls.specs.declared.LineError.TheVariants.{TooLarge, NotACall}
+use Rattle.calls.specs.Lines.{Line, said}
 use Rattle.print.specs.Lines.{start_answer, arrival_answer, departure_answer}
 use Rattle.records.specs.declared.Entry.{Entry}
 use Rattle.records.specs.declared.Entry.TheVariants as entry
@@ -51,20 +51,20 @@ module _ (m l : List ℕ) (reached : Reached m l) {m₁ l₁ m₂ l₂ : List �
       (p.says ∙ ap (λ (v : Departure). Says (departure_answer v) (departure_entry stamp v)) one.0 ∙ sym q.says, one.1, one.2)
 
   pub first_one : (tree : Tree) (line : Line) → FirstReplied tree m l line r m₁ l₁ → FirstReplied tree m l line s m₂ l₂ → Same r m₁ l₁ s m₂ l₂
-  first_one tree (Start stamp) p q = start_replied_one tree stamp p q
-  first_one tree (Arrive stamp class bytes) p q = no_call_one p q
-  first_one tree (Depart stamp) p q = no_call_one p q
-  first_one tree Nothing p q = no_call_one p q
-  first_one tree TooLarge p q = no_call_one p q
-  first_one tree NotACall p q = no_call_one p q
+  first_one tree (Ok (Some (Start stamp))) p q = start_replied_one tree stamp p q
+  first_one tree (Ok (Some (Arrive stamp class bytes))) p q = no_call_one p q
+  first_one tree (Ok (Some (Depart stamp))) p q = no_call_one p q
+  first_one tree (Ok None) p q = no_call_one p q
+  first_one tree (Err TooLarge) p q = no_call_one p q
+  first_one tree (Err NotACall) p q = no_call_one p q
 
   pub later_one : (line : Line) → LaterReplied m l line r m₁ l₁ → LaterReplied m l line s m₂ l₂ → Same r m₁ l₁ s m₂ l₂
-  later_one (Start stamp) p q = no_call_one p q
-  later_one (Arrive stamp class bytes) p q = arrive_replied_one stamp class bytes p q
-  later_one (Depart stamp) p q = depart_replied_one stamp p q
-  later_one Nothing p q = no_call_one p q
-  later_one TooLarge p q = no_call_one p q
-  later_one NotACall p q = no_call_one p q
+  later_one (Ok (Some (Start stamp))) p q = no_call_one p q
+  later_one (Ok (Some (Arrive stamp class bytes))) p q = arrive_replied_one stamp class bytes p q
+  later_one (Ok (Some (Depart stamp))) p q = depart_replied_one stamp p q
+  later_one (Ok None) p q = no_call_one p q
+  later_one (Err TooLarge) p q = no_call_one p q
+  later_one (Err NotACall) p q = no_call_one p q
 
   pub replied_one : (tree : Tree) (started : Bool) (line : Line) → Replied tree started m l line r m₁ l₁ → Replied tree started m l line s m₂ l₂ → Same r m₁ l₁ s m₂ l₂
   replied_one tree true line p q = later_one line p q

@@ -1,15 +1,15 @@
 -- What a line of a calls file is replied with, and what is printed of it, as docs/FORMS.md sets it down.
 -- Assumes nothing.
-use Rattle.std.specs.Prelude.{◌≡◌, ℕ, ◌+◌, ◌%◌, ◌^◌, Bool, true, false, List}
+use Rattle.std.specs.Prelude.{◌≡◌, ℕ, ◌+◌, ◌%◌, ◌^◌, Bool, true, false, List, None, Some, Ok, Err}
 use Rattle.tree.specs.declared.Tree.{Tree}
 use Rattle.tree.specs.declared.Verdict.{Verdict}
 use Rattle.rules.specs.declared.Arrival.{Arrival}
 use Rattle.rules.specs.declared.Departure.{Departure}
 use Rattle.state.specs.Heads.{EveryHistory}
 use Rattle.sched.specs.Promises.{StartRight, ArriveRight, DepartRight}
-use Rattle.calls.specs.declared.Line.{Line}
-use Rattle.calls.specs.declared.Line.TheVariants.{Start, Arrive, Depart, Nothing, TooLarge, NotACall}
-use Rattle.calls.specs.Lines.{said}
+use Rattle.calls.specs.declared.Call.TheVariants.{Start, Arrive, Depart}
+use Rattle.calls.specs.declared.LineError.TheVariants.{TooLarge, NotACall}
+use Rattle.calls.specs.Lines.{Line, said}
 use Rattle.records.specs.declared.Entry.{Entry}
 use Rattle.records.specs.declared.Entry.TheVariants as entry
 use Rattle.records.specs.Records.{arrival_entry, departure_entry}
@@ -49,21 +49,21 @@ pub record DepartReplied (m l : List ℕ) (stamp : ℕ) (reply : Reply) (m' l' :
 
 -- "`start` is the first call"
 abbrev pub FirstReplied : Tree → (m l : List ℕ) → Line → Reply → (m' l' : List ℕ) → Type 0
-FirstReplied tree m l (Start stamp) reply m' l' = StartReplied tree stamp reply m' l'
-FirstReplied tree m l (Arrive stamp class bytes) reply m' l' = NoCall (Stops wrong.StartFirst) m l reply m' l'
-FirstReplied tree m l (Depart stamp) reply m' l' = NoCall (Stops wrong.StartFirst) m l reply m' l'
-FirstReplied tree m l Nothing reply m' l' = NoCall Silent m l reply m' l'
-FirstReplied tree m l TooLarge reply m' l' = NoCall (Stops wrong.TooLarge) m l reply m' l'
-FirstReplied tree m l NotACall reply m' l' = NoCall (Stops wrong.NotACall) m l reply m' l'
+FirstReplied tree m l (Ok (Some (Start stamp))) reply m' l' = StartReplied tree stamp reply m' l'
+FirstReplied tree m l (Ok (Some (Arrive stamp class bytes))) reply m' l' = NoCall (Stops wrong.StartFirst) m l reply m' l'
+FirstReplied tree m l (Ok (Some (Depart stamp))) reply m' l' = NoCall (Stops wrong.StartFirst) m l reply m' l'
+FirstReplied tree m l (Ok None) reply m' l' = NoCall Silent m l reply m' l'
+FirstReplied tree m l (Err TooLarge) reply m' l' = NoCall (Stops wrong.TooLarge) m l reply m' l'
+FirstReplied tree m l (Err NotACall) reply m' l' = NoCall (Stops wrong.NotACall) m l reply m' l'
 
 -- "and there is one"
 abbrev pub LaterReplied : (m l : List ℕ) → Line → Reply → (m' l' : List ℕ) → Type 0
-LaterReplied m l (Start stamp) reply m' l' = NoCall (Stops wrong.StartedAlready) m l reply m' l'
-LaterReplied m l (Arrive stamp class bytes) reply m' l' = ArriveReplied m l stamp class bytes reply m' l'
-LaterReplied m l (Depart stamp) reply m' l' = DepartReplied m l stamp reply m' l'
-LaterReplied m l Nothing reply m' l' = NoCall Silent m l reply m' l'
-LaterReplied m l TooLarge reply m' l' = NoCall (Stops wrong.TooLarge) m l reply m' l'
-LaterReplied m l NotACall reply m' l' = NoCall (Stops wrong.NotACall) m l reply m' l'
+LaterReplied m l (Ok (Some (Start stamp))) reply m' l' = NoCall (Stops wrong.StartedAlready) m l reply m' l'
+LaterReplied m l (Ok (Some (Arrive stamp class bytes))) reply m' l' = ArriveReplied m l stamp class bytes reply m' l'
+LaterReplied m l (Ok (Some (Depart stamp))) reply m' l' = DepartReplied m l stamp reply m' l'
+LaterReplied m l (Ok None) reply m' l' = NoCall Silent m l reply m' l'
+LaterReplied m l (Err TooLarge) reply m' l' = NoCall (Stops wrong.TooLarge) m l reply m' l'
+LaterReplied m l (Err NotACall) reply m' l' = NoCall (Stops wrong.NotACall) m l reply m' l'
 
 abbrev pub Replied : Tree → Bool → (m l : List ℕ) → Line → Reply → (m' l' : List ℕ) → Type 0
 Replied tree true m l line reply m' l' = LaterReplied m l line reply m' l'

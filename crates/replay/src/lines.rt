@@ -4,7 +4,7 @@ ghost use Rattle.state.specs.State.{Reached};
 ghost use Rattle.print.specs.Promises.{Within, line_room};
 ghost use Rattle.replay.specs.Replies.{StartReplied, ArriveReplied, DepartReplied, FirstReplied, LaterReplied, Replied, Told, Replayed, CallPrinted, before_lines};
 
-use calls::Line;
+use calls::{Call, LineError};
 use print::{Answer, LINE, Wrong};
 use records::Entry;
 use rules::Departure;
@@ -74,7 +74,7 @@ fn replied(
     tree: Tree,
     words: &mut Words,
     lengths: &mut Lengths,
-    call: Line,
+    call: Result<Option<Call>, LineError>,
     is_started: bool,
 ) -> Reply
     requires { Reached words.old lengths.old }
@@ -88,42 +88,46 @@ fn replied(
 }
 
 // A line before which no call was replayed: `start` comes first.
-fn first(tree: Tree, words: &mut Words, lengths: &mut Lengths, call: Line) -> Reply
+fn first(
+    tree: Tree,
+    words: &mut Words,
+    lengths: &mut Lengths,
+    call: Result<Option<Call>, LineError>,
+) -> Reply
     requires { Reached words.old lengths.old }
     ensures right { FirstReplied tree words.old lengths.old call result words.new lengths.new }
     ensures reached { Reached words.new lengths.new }
 {
     match call {
-        Line::Start { stamp } => start(tree, words, lengths, stamp),
-        Line::Arrive {
-            stamp,
-            class,
-            length,
-        } => stops(Wrong::StartFirst),
-        Line::Depart { stamp } => stops(Wrong::StartFirst),
-        Line::Nothing => Reply::Silent,
-        Line::TooLarge => stops(Wrong::TooLarge),
-        Line::NotACall => stops(Wrong::NotACall),
+        Ok(Some(Call::Start { stamp })) => start(tree, words, lengths, stamp),
+        Ok(Some(Call::Arrive { .. } | Call::Depart { .. })) => stops(Wrong::StartFirst),
+        Ok(None) => Reply::Silent,
+        Err(LineError::TooLarge) => stops(Wrong::TooLarge),
+        Err(LineError::NotACall) => stops(Wrong::NotACall),
     }
 }
 
 // A line after `start`.
-fn later(words: &mut Words, lengths: &mut Lengths, call: Line) -> Reply
+fn later(words: &mut Words, lengths: &mut Lengths, call: Result<Option<Call>, LineError>) -> Reply
     requires { Reached words.old lengths.old }
     ensures right { LaterReplied words.old lengths.old call result words.new lengths.new }
     ensures reached { Reached words.new lengths.new }
 {
     match call {
-        Line::Arrive {
-            stamp,
-            class,
-            length,
-        } => arrive(words, lengths, stamp, class, length),
-        Line::Depart { stamp } => depart(words, lengths, stamp),
-        Line::Start { stamp } => stops(Wrong::StartedAlready),
-        Line::Nothing => Reply::Silent,
-        Line::TooLarge => stops(Wrong::TooLarge),
-        Line::NotACall => stops(Wrong::NotACall),
+        Ok(
+            Some(
+                Call::Arrive {
+                    stamp,
+                    class,
+                    length,
+                },
+            ),
+        ) => arrive(words, lengths, stamp, class, length),
+        Ok(Some(Call::Depart { stamp })) => depart(words, lengths, stamp),
+        Ok(Some(Call::Start { .. })) => stops(Wrong::StartedAlready),
+        Ok(None) => Reply::Silent,
+        Err(LineError::TooLarge) => stops(Wrong::TooLarge),
+        Err(LineError::NotACall) => stops(Wrong::NotACall),
     }
 }
 

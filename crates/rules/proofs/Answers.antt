@@ -1,5 +1,7 @@
 -- The rules name one answer and one history after it, for every call, and never get stuck; and the history after it is lawful again.
 -- Assumes nothing.
+use Rattle.std.specs.Prelude.{Some, None, Ok, Err, Option}
+use Rattle.rules.specs.Kinds.{Arrival, Departure}
 use Rattle.std.proofs.Common.{◌≡◌, ℕ, ◌+◌, ◌%◌, ◌<◌, Bool, true, false, ◌⊎◌, List, [], ◌∷◌, sym, refl, ap, ◌∙◌, subst, ap₂, inl, inr, ⊎_elim, arith}
 use Rattle.curve.proofs.Laws.Answers.{least_one}
 use Rattle.curve.proofs.Laws.Times.{deadline_exists, eligible_exists}
@@ -8,8 +10,7 @@ use Rattle.tree.specs.declared.Refusal.{Refusal}
 use Rattle.tree.specs.declared.Refusal.TheVariants.{NoSuchLeaf, WrongLength, LeafFull, StampTooFar, ClockFull, BytesFull}
 use Rattle.tree.specs.Numbers.{number_of}
 use Rattle.tree.proofs.Numbers.{refusal_by_number}
-use Rattle.tree.specs.declared.Verdict.{Verdict}
-use Rattle.tree.specs.declared.Verdict.TheVariants.{Right}
+use Rattle.tree.specs.Verdicts.{Verdict, all_right}
 use Rattle.tree.specs.Rules.{Judged}
 use Rattle.tree.proofs.Verdicts.{judged_right}
 use Rattle.tree.proofs.One.{check_one}
@@ -17,12 +18,7 @@ use Rattle.tree.proofs.Some.{check_some}
 use Rattle.tree.specs.Trees.{empty_tree, curve_of, is_leaf}
 use Rattle.rules.specs.declared.Rule.{Rule}
 use Rattle.rules.specs.declared.Times.{Times}
-use Rattle.rules.specs.declared.Times.TheVariants.{Untimed, Timed}
 use Rattle.rules.specs.declared.Packet.{Packet}
-use Rattle.rules.specs.declared.Arrival.{Arrival}
-use Rattle.rules.specs.declared.Arrival.TheVariants.{Accepted}
-use Rattle.rules.specs.declared.Departure.{Departure}
-use Rattle.rules.specs.declared.Departure.TheVariants.{Leaves, NoneWaits}
 use Rattle.rules.specs.Limits.{wheel, weigh}
 use Rattle.rules.specs.Calls.{Call, came, left, idle, History}
 use Rattle.rules.specs.Clock.{clock, last_stamp, elapsed_ticks}
@@ -76,26 +72,29 @@ arrival_known h stamp j n =
 -- an arrival
 
 pub arrives_one : ArrivesOne
-arrives_one h stamp j n (Accepted k) (Accepted l) x y p q = (ap (λ (m : ℕ). Accepted m) (p.numbered ∙ sym q.numbered), p.after ∙ sym q.after)
-arrives_one h stamp j n (Accepted k) (Arrival.Refused w) x y p q = apart p.checked q.checked
-arrives_one h stamp j n (Arrival.Refused v) (Accepted l) x y p q = apart q.checked p.checked
-arrives_one h stamp j n (Arrival.Refused v) (Arrival.Refused w) x y p q = (ap (λ (z : Refusal). Arrival.Refused z) (same_refusal v w p.checked q.checked), p.after ∙ sym q.after)
+arrives_one h stamp j n (Ok k) (Ok l) x y p q = (ap (λ (m : ℕ). Ok m) (p.numbered ∙ sym q.numbered), p.after ∙ sym q.after)
+arrives_one h stamp j n (Ok k) (Err w) x y p q = apart p.checked q.checked
+arrives_one h stamp j n (Err v) (Ok l) x y p q = apart q.checked p.checked
+arrives_one h stamp j n (Err v) (Err w) x y p q = (ap (λ (z : Refusal). Err z) (same_refusal v w p.checked q.checked), p.after ∙ sym q.after)
 
 pub arrives_some : ArrivesSome
 arrives_some h stamp j n =
     ⊎_elim
     (λ (e : outcome (arrival_checks h.tree h.calls (ticks h stamp) j n) ≡ passed).
-    (Accepted (next_number h.calls j), with_call h (came (next_clock h stamp) j n), record { checked = e; numbered = refl; after = refl }))
-    (λ (e : (why : Refusal) × (outcome (arrival_checks h.tree h.calls (ticks h stamp) j n) ≡ refused (number_of why))). (Arrival.Refused e.0, h, record { checked = e.1; after = refl }))
+    (Ok (next_number h.calls j), with_call h (came (next_clock h stamp) j n), record { checked = e; numbered = refl; after = refl }))
+    (λ (e : (why : Refusal) × (outcome (arrival_checks h.tree h.calls (ticks h stamp) j n) ≡ refused (number_of why))). (Err e.0, h, record { checked = e.1; after = refl }))
     (arrival_known h stamp j n)
 
 -- a departure
 
-times_one : (tree : Tree) (cs : List Call) (j : ℕ) (s t : Times) → TimesOf tree cs j s → TimesOf tree cs j t → s ≡ t
-times_one tree cs j Untimed Untimed p q = refl
-times_one tree cs j Untimed (Timed e d) p q = never q.curved p
-times_one tree cs j (Timed e d) Untimed p q = never p.curved q
-times_one tree cs j (Timed e d) (Timed f g) p q = ap₂ Timed (least_one p.is_eligible q.is_eligible) (least_one p.is_deadline q.is_deadline)
+abbrev timed : ℕ → ℕ → Option Times
+timed eligible deadline = Some (record { eligible = eligible; deadline = deadline })
+
+times_one : (tree : Tree) (cs : List Call) (j : ℕ) (s t : Option Times) → TimesOf tree cs j s → TimesOf tree cs j t → s ≡ t
+times_one tree cs j None None p q = refl
+times_one tree cs j None (Some t) p q = never q.curved p
+times_one tree cs j (Some s) None p q = never p.curved q
+times_one tree cs j (Some s) (Some t) p q = ap₂ timed (least_one p.is_eligible q.is_eligible) (least_one p.is_deadline q.is_deadline)
 
 packet_one : (tree : Tree) (cs : List Call) (p q : Packet) → p.class ≡ q.class → p.rule ≡ q.rule → IsHead tree cs p → IsHead tree cs q → p ≡ q
 packet_one tree cs p q class rule hp hq =
@@ -107,31 +106,31 @@ packet_one tree cs p q class rule hp hq =
     λ i. record { class = class i; number = number i; length = length i; rule = rule i; times = times i }
 
 pub departs_one : DepartsOne
-departs_one h law stamp (Leaves p) (Leaves q) x y d e =
+departs_one h law stamp (Ok (Some p)) (Ok (Some q)) x y d e =
     let same = choice_one h.tree h.calls (next_clock h stamp) p.class q.class p.rule q.rule d.chosen e.chosen in (
-      ap (λ (z : Packet). Leaves z) (packet_one h.tree h.calls p q same.0 same.1 d.head e.head),
+      ap (λ (z : Packet). Ok (Some z)) (packet_one h.tree h.calls p q same.0 same.1 d.head e.head),
       d.after ∙ ap₂ (λ (j : ℕ) (r : Rule). with_call h (left (next_clock h stamp) j r)) same.0 same.1 ∙ sym e.after,
     )
-departs_one h law stamp (Leaves p) NoneWaits x y d e =
+departs_one h law stamp (Ok (Some p)) (Ok None) x y d e =
     never (choice_waits h.tree law.grown h.calls (next_clock h stamp) p.class p.rule d.chosen) (e.nothing p.class)
-departs_one h law stamp (Leaves p) (Departure.Refused w) x y d e = apart d.checked e.checked
-departs_one h law stamp NoneWaits (Leaves q) x y d e =
+departs_one h law stamp (Ok (Some p)) (Err w) x y d e = apart d.checked e.checked
+departs_one h law stamp (Ok None) (Ok (Some q)) x y d e =
     never (choice_waits h.tree law.grown h.calls (next_clock h stamp) q.class q.rule e.chosen) (d.nothing q.class)
-departs_one h law stamp NoneWaits NoneWaits x y d e = (refl, d.after ∙ sym e.after)
-departs_one h law stamp NoneWaits (Departure.Refused w) x y d e = apart d.checked e.checked
-departs_one h law stamp (Departure.Refused v) (Leaves q) x y d e = apart e.checked d.checked
-departs_one h law stamp (Departure.Refused v) NoneWaits x y d e = apart e.checked d.checked
-departs_one h law stamp (Departure.Refused v) (Departure.Refused w) x y d e = (ap (λ (z : Refusal). Departure.Refused z) (same_refusal v w d.checked e.checked), d.after ∙ sym e.after)
+departs_one h law stamp (Ok None) (Ok None) x y d e = (refl, d.after ∙ sym e.after)
+departs_one h law stamp (Ok None) (Err w) x y d e = apart d.checked e.checked
+departs_one h law stamp (Err v) (Ok (Some q)) x y d e = apart e.checked d.checked
+departs_one h law stamp (Err v) (Ok None) x y d e = apart e.checked d.checked
+departs_one h law stamp (Err v) (Err w) x y d e = (ap (λ (z : Refusal). Err z) (same_refusal v w d.checked e.checked), d.after ∙ sym e.after)
 
-times_some : (h : History) → Lawful h → (j : ℕ) → is_leaf h.tree j ≡ true → (t : Times) × TimesOf h.tree h.calls j t
+times_some : (h : History) → Lawful h → (j : ℕ) → is_leaf h.tree j ≡ true → (t : Option Times) × TimesOf h.tree h.calls j t
 times_some h law j leaf =
     ⊎_elim
     (λ (curved : has_curve (curve_of h.tree j) ≡ true).
     let rising = curve_rising h.tree law.grown j (leaf_class h.tree j leaf) curved in
     let e = eligible_exists (curve_of h.tree j) rising (pieces h.calls j) (sent_real_time h.calls j) in
     let d = deadline_exists (curve_of h.tree j) rising (pieces h.calls j) (sent_real_time h.calls j + weigh (head_length h.calls j)) in
-    (Timed e.0 d.0, record { curved = curved; is_eligible = e.1; is_deadline = d.1 }))
-    (λ (bare : has_curve (curve_of h.tree j) ≡ false). (Untimed, bare)) (decided (has_curve (curve_of h.tree j)))
+    (Some (record { eligible = e.0; deadline = d.0 }), record { curved = curved; is_eligible = e.1; is_deadline = d.1 }))
+    (λ (bare : has_curve (curve_of h.tree j) ≡ false). (None, bare)) (decided (has_curve (curve_of h.tree j)))
 
 pub nothing_waits : (h : History) → Lawful h → any_of h.tree.count (waits h.calls) ≡ false → NothingWaits h.calls
 nothing_waits h law none j =
@@ -149,14 +148,14 @@ departs_some h law stamp =
     let w = any_which h.tree.count (waits h.calls) some in
     let (j, r, c) = choice_exists h.tree law.grown h.calls law.lawful (next_clock h stamp) w.0 w.2 in
     let (t, times) = times_some h law j (choice_leaf h.tree law.grown h.calls (next_clock h stamp) j r c) in (
-      Leaves (record { class = j; number = head_number h.calls j; length = head_length h.calls j; rule = r; times = t }),
+      Ok (Some (record { class = j; number = head_number h.calls j; length = head_length h.calls j; rule = r; times = t })),
       with_call h (left (next_clock h stamp) j r),
       record { checked = e; chosen = c; head = record { number = refl; length = refl; times = times }; after = refl },
     ))
     (λ (none : any_of h.tree.count (waits h.calls) ≡ false).
-    (NoneWaits, with_call h (idle (next_clock h stamp)), record { checked = e; nothing = nothing_waits h law none; after = refl }))
+    ((Ok None), with_call h (idle (next_clock h stamp)), record { checked = e; nothing = nothing_waits h law none; after = refl }))
     (decided (any_of h.tree.count (waits h.calls))))
-    (λ (e : (why : Refusal) × (outcome (departure_checks h.calls (ticks h stamp)) ≡ refused (number_of why))). (Departure.Refused e.0, h, record { checked = e.1; after = refl }))
+    (λ (e : (why : Refusal) × (outcome (departure_checks h.calls (ticks h stamp)) ≡ refused (number_of why))). (Err e.0, h, record { checked = e.1; after = refl }))
     (departure_known h stamp)
 
 -- the history after a call is lawful
@@ -167,18 +166,18 @@ lawful_with h c law allowed = record { grown = law.grown; stamp = law.stamp; law
 
 pub arrives_lawful : (h : History) → Lawful h → (stamp j n : ℕ) (a : Arrival) (x : History) → Arrives h stamp j n a x → Lawful x
 unfolding clock
-arrives_lawful h law stamp j n (Arrival.Refused why) x d = subst Lawful (sym d.after) law
-arrives_lawful h law stamp j n (Accepted k) x d =
+arrives_lawful h law stamp j n (Err why) x d = subst Lawful (sym d.after) law
+arrives_lawful h law stamp j n (Ok k) x d =
     subst Lawful (sym d.after)
     (lawful_with h (came (next_clock h stamp) j n) law (record { elapsed = ticks h stamp; is_tick = refl; checked = d.checked; finds = tt }))
 
 pub departs_lawful : (h : History) → Lawful h → (stamp : ℕ) (a : Departure) (x : History) → Departs h stamp a x → Lawful x
 unfolding clock
-departs_lawful h law stamp (Departure.Refused why) x d = subst Lawful (sym d.after) law
-departs_lawful h law stamp NoneWaits x d =
+departs_lawful h law stamp (Err why) x d = subst Lawful (sym d.after) law
+departs_lawful h law stamp (Ok None) x d =
     subst Lawful (sym d.after)
     (lawful_with h (idle (next_clock h stamp)) law (record { elapsed = ticks h stamp; is_tick = refl; checked = d.checked; finds = d.nothing }))
-departs_lawful h law stamp (Leaves p) x d =
+departs_lawful h law stamp (Ok (Some p)) x d =
     subst Lawful (sym d.after)
     (lawful_with h (left (next_clock h stamp) p.class p.rule) law (left_allowed (ticks h stamp) refl d.checked d.chosen))
 
@@ -196,8 +195,8 @@ first_kept first small = omega arith
 
 started_lawful : (tree : Tree) (stamp : ℕ) (v : Verdict) → stamp < wheel → Judged tree v → Lawful (started tree stamp v)
 unfolding LawfulCalls empty_tree
-started_lawful tree stamp Right small j = record { grown = Grown.right (judged_right tree j); stamp = small; lawful = tt }
-started_lawful tree stamp (Verdict.Refused why class) small j = record { grown = Grown.none refl; stamp = small; lawful = tt }
+started_lawful tree stamp (Ok _) small j = record { grown = Grown.right (judged_right tree j); stamp = small; lawful = tt }
+started_lawful tree stamp (Err _) small j = record { grown = Grown.none refl; stamp = small; lawful = tt }
 
 pub starts_lawful : (tree : Tree) (stamp : ℕ) (v : Verdict) (h : History) → stamp < wheel → Starts tree stamp v h → Lawful h
 starts_lawful tree stamp v h small s = subst Lawful (sym s.history) (started_lawful tree stamp v small s.judged)
@@ -249,9 +248,9 @@ module _ (h : History) (c : Call) (a : Allowed h.tree h.calls c) where
 
 -- some call of the scheduler answers and leaves the history longer by c
 abbrev pub Called : History → Call → Type 0
-Called h (came at j n) = (stamp : ℕ) × (stamp < wheel) × Arrives h stamp j n (Accepted (next_number h.calls j)) (with_call h (came at j n))
-Called h (left at j r) = (stamp : ℕ) × (stamp < wheel) × (p : Packet) × Departs h stamp (Leaves p) (with_call h (left at j r))
-Called h (idle at) = (stamp : ℕ) × (stamp < wheel) × Departs h stamp NoneWaits (with_call h (idle at))
+Called h (came at j n) = (stamp : ℕ) × (stamp < wheel) × Arrives h stamp j n (Ok (next_number h.calls j)) (with_call h (came at j n))
+Called h (left at j r) = (stamp : ℕ) × (stamp < wheel) × (p : Packet) × Departs h stamp (Ok (Some p)) (with_call h (left at j r))
+Called h (idle at) = (stamp : ℕ) × (stamp < wheel) × Departs h stamp (Ok None) (with_call h (idle at))
 
 pub lawful_called : (h : History) → Lawful h → (c : Call) → Allowed h.tree h.calls c → Called h c
 unfolding clock

@@ -10,7 +10,7 @@ use Rattle.curve.proofs.Laws.Fit.{fit_each, fit_at}
 use Rattle.tree.specs.Trees.{class_at, is_child, child_below, has_child, steps_up, depth, curve_below, curves_from, curves_of, curve_of}
 use Rattle.tree.specs.Rules.{RightShape, RightTree, RightClass}
 use Rattle.tree.specs.declared.Refusal.TheVariants.{CurvesDontFit}
-use Rattle.tree.specs.declared.Verdict.TheVariants.{Right}
+use Rattle.tree.specs.Verdicts.{all_right}
 use Rattle.tree.proofs.Verdicts.{right_judged, refused-10}
 use Rattle.rules.specs.Calls.{Call, left}
 use Rattle.rules.specs.Leaves.{pieces, sent_real_time}
@@ -72,7 +72,7 @@ module _ (S₁ S₂ : Curve) (curve₁ : RightCurve S₁) (curve₂ : RightCurve
     (
       CurvesDontFit,
       refl,
-      refused-10 (two_leaves 32768 S₁ 32768 S₂) (λ v. v ≡ Right) (two_shape 32768 S₁ 32768 S₂ (omega arith) curve₁ (omega arith) curve₂)
+      refused-10 (two_leaves 32768 S₁ 32768 S₂) (λ v. v ≡ all_right) (two_shape 32768 S₁ 32768 S₂ (omega arith) curve₁ (omega arith) curve₂)
           (λ f. h (of_fit 32768 S₁ 32768 S₂ f)),
     ),
   )

@@ -1,15 +1,13 @@
 -- The lawful histories are those that a start and calls make.
 -- Assumes nothing.
+use Rattle.std.specs.Prelude.{Some, None, Ok}
 use Rattle.std.proofs.Common.{◌≡◌, ℕ, ◌<◌, List, [], ◌∷◌, refl, ap, arith}
 use Rattle.tree.specs.declared.Tree.{Tree}
 use Rattle.tree.specs.declared.Refusal.TheVariants.{WrongCount}
-use Rattle.tree.specs.declared.Verdict.{Verdict}
-use Rattle.tree.specs.declared.Verdict.TheVariants.{Right}
+use Rattle.tree.specs.Verdicts.{all_right, refused}
 use Rattle.tree.specs.Rules.{FitChecked}
 use Rattle.tree.specs.Trees.{empty_tree}
 use Rattle.tree.proofs.Verdicts.{right_judged, refused-4}
-use Rattle.rules.specs.declared.Arrival.TheVariants.{Accepted}
-use Rattle.rules.specs.declared.Departure.TheVariants.{Leaves, NoneWaits}
 use Rattle.rules.specs.Limits.{wheel}
 use Rattle.rules.specs.Calls.{Call, came, left, idle, History}
 use Rattle.rules.specs.Queues.{next_number}
@@ -21,11 +19,11 @@ use Rattle.rules.proofs.Answers.{arrives_lawful, departs_lawful, starts_lawful, 
 -- a start keeps a right tree, and gives the tree of no classes where it refuses: for instance where it is lent that very tree
 made_start : (tree : Tree) (first : ℕ) → Grown tree → first < wheel → Made (record { tree = tree; first = first; calls = [] })
 unfolding empty_tree
-made_start tree first (right r) small = by_start tree first Right small (record { judged = right_judged tree r; history = refl })
+made_start tree first (right r) small = by_start tree first all_right small (record { judged = right_judged tree r; history = refl })
 made_start tree first (none e) small =
-    by_start empty_tree first (Verdict.Refused WrongCount 0) small
+    by_start empty_tree first (refused WrongCount 0) small
     (record {
-      judged = refused-4 empty_tree (FitChecked empty_tree (λ v. v ≡ Right)) (λ count. omega (arith, count.above));
+      judged = refused-4 empty_tree (FitChecked empty_tree (λ v. v ≡ all_right)) (λ count. omega (arith, count.above));
       history = ap (λ (t : Tree). record { tree = t; first = first; calls = [] }) e;
     })
 
@@ -33,13 +31,13 @@ made_start tree first (none e) small =
 made_call : (h : History) → Lawful h → Made h → (c : Call) → Allowed h.tree h.calls c → Made (with_call h c)
 made_call h law made (came at j n) a =
     let (stamp, narrow, arrives) = lawful_called h law (came at j n) a in
-    by_arrival stamp j n (Accepted (next_number h.calls j)) made narrow arrives
+    by_arrival stamp j n (Ok (next_number h.calls j)) made narrow arrives
 made_call h law made (left at j r) a =
     let (stamp, narrow, p, departs) = lawful_called h law (left at j r) a in
-    by_departure stamp (Leaves p) made narrow departs
+    by_departure stamp (Ok (Some p)) made narrow departs
 made_call h law made (idle at) a =
     let (stamp, narrow, departs) = lawful_called h law (idle at) a in
-    by_departure stamp NoneWaits made narrow departs
+    by_departure stamp (Ok None) made narrow departs
 
 made_calls : (tree : Tree) (first : ℕ) (cs : List Call) → Grown tree → first < wheel → LawfulCalls tree cs
     → Made (record { tree = tree; first = first; calls = cs })

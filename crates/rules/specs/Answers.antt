@@ -1,20 +1,15 @@
 -- Document 01, "One departure" and "Numbers of refusal": what each call answers, and the history after it.
 -- Assumes nothing.
-use Rattle.std.specs.Prelude.{◌≡◌, ℕ, ◌+◌, true, false, List, [], ◌∷◌}
+use Rattle.rules.specs.Kinds.{Arrival, Departure}
+use Rattle.std.specs.Prelude.{◌≡◌, ℕ, ◌+◌, true, false, List, [], ◌∷◌, Some, None, Ok, Err, Option}
 use Rattle.tree.specs.declared.Tree.{Tree}
 use Rattle.tree.specs.declared.Refusal.{Refusal}
 use Rattle.tree.specs.Numbers.{number_of}
-use Rattle.tree.specs.declared.Verdict.{Verdict}
-use Rattle.tree.specs.declared.Verdict.TheVariants.{Right}
+use Rattle.tree.specs.Verdicts.{Verdict, all_right}
 use Rattle.tree.specs.Rules.{Judged}
 use Rattle.tree.specs.Trees.{empty_tree, curve_of}
 use Rattle.rules.specs.declared.Times.{Times}
-use Rattle.rules.specs.declared.Times.TheVariants.{Untimed, Timed}
 use Rattle.rules.specs.declared.Packet.{Packet}
-use Rattle.rules.specs.declared.Arrival.{Arrival}
-use Rattle.rules.specs.declared.Arrival.TheVariants.{Accepted}
-use Rattle.rules.specs.declared.Departure.{Departure}
-use Rattle.rules.specs.declared.Departure.TheVariants.{Leaves, NoneWaits}
 use Rattle.rules.specs.Calls.{Call, came, left, idle, History}
 use Rattle.rules.specs.Clock.{clock, last_stamp, elapsed_ticks}
 use Rattle.rules.specs.Queues.{head_length, next_number, head_number}
@@ -47,8 +42,8 @@ pub record IsAccepted (h : History) (stamp j n number : ℕ) (next : History) : 
 
 -- an arrival's answer, and the history after it
 abbrev pub Arrives : History → (stamp j n : ℕ) → Arrival → History → Type 0
-Arrives h stamp j n (Accepted number) next = IsAccepted h stamp j n number next
-Arrives h stamp j n (Arrival.Refused why) next = IsRefused (arrival_checks h.tree h.calls (ticks h stamp) j n) why h next
+Arrives h stamp j n (Ok number) next = IsAccepted h stamp j n number next
+Arrives h stamp j n (Err why) next = IsRefused (arrival_checks h.tree h.calls (ticks h stamp) j n) why h next
 
 -- "for a leaf with a real-time curve eligible time and deadline", as they stood before the packet left
 pub record IsTimed (tree : Tree) (cs : List Call) (j eligible deadline : ℕ) : Type 0 where
@@ -56,9 +51,9 @@ pub record IsTimed (tree : Tree) (cs : List Call) (j eligible deadline : ℕ) : 
   pub is_eligible : EligibleOf tree cs j eligible
   pub is_deadline : DeadlineOf tree cs j deadline
 
-abbrev pub TimesOf : Tree → List Call → ℕ → Times → Type 0
-TimesOf tree cs j Untimed = has_curve (curve_of tree j) ≡ false
-TimesOf tree cs j (Timed eligible deadline) = IsTimed tree cs j eligible deadline
+abbrev pub TimesOf : Tree → List Call → ℕ → Option Times → Type 0
+TimesOf tree cs j None = has_curve (curve_of tree j) ≡ false
+TimesOf tree cs j (Some times) = IsTimed tree cs j times.eligible times.deadline
 
 -- "a packet (class, its number within the leaf from 0, length, rule, and for a leaf with a real-time curve eligible time and deadline)"
 pub record IsHead (tree : Tree) (cs : List Call) (p : Packet) : Type 0 where
@@ -81,15 +76,15 @@ pub record FindsNone (h : History) (stamp : ℕ) (next : History) : Type 0 where
 
 -- a departure's answer, and the history after it: "either a packet (..) or 'none waits'"
 abbrev pub Departs : History → (stamp : ℕ) → Departure → History → Type 0
-Departs h stamp (Leaves p) next = IsSent h stamp p next
-Departs h stamp NoneWaits next = FindsNone h stamp next
-Departs h stamp (Departure.Refused why) next = IsRefused (departure_checks h.calls (ticks h stamp)) why h next
+Departs h stamp (Ok (Some p)) next = IsSent h stamp p next
+Departs h stamp (Ok None) next = FindsNone h stamp next
+Departs h stamp (Err why) next = IsRefused (departure_checks h.calls (ticks h stamp)) why h next
 
 -- "Start takes a first stamp, which is time 0." "A refused start gives a state of no classes at time 0 with the first stamp kept":
 -- there no class is a leaf, so that arrivals that pass 14 and 15 get 11, and nothing waits (`NoClassesArrive` and `NoClassesDepart` of specs/Sentences).
 abbrev pub started : Tree → ℕ → Verdict → History
-started tree stamp Right = record { tree = tree; first = stamp; calls = [] }
-started tree stamp (Verdict.Refused why class) = record { tree = empty_tree; first = stamp; calls = [] }
+started tree stamp (Ok _) = record { tree = tree; first = stamp; calls = [] }
+started tree stamp (Err _) = record { tree = empty_tree; first = stamp; calls = [] }
 
 -- "Starting checks 4, 7, 8, 9, 10": a start's answer is the tree layer's verdict, and this is the history after it
 pub record Starts (tree : Tree) (stamp : ℕ) (verdict : Verdict) (next : History) : Type 0 where

@@ -10,6 +10,7 @@ pub mod Fair
 pub mod Choice
 pub mod Checks
 pub mod Lawful
+pub mod Kinds
 pub mod Answers
 pub mod Made
 pub mod Sentences

@@ -1,10 +1,9 @@
 -- "A state comes only from start or an earlier call": the histories that a start and calls make, which are the lawful ones.
 -- Assumes nothing.
+use Rattle.rules.specs.Kinds.{Arrival, Departure}
 use Rattle.std.specs.Prelude.{ℕ, ◌<◌}
 use Rattle.tree.specs.declared.Tree.{Tree}
-use Rattle.tree.specs.declared.Verdict.{Verdict}
-use Rattle.rules.specs.declared.Arrival.{Arrival}
-use Rattle.rules.specs.declared.Departure.{Departure}
+use Rattle.tree.specs.Verdicts.{Verdict}
 use Rattle.rules.specs.Limits.{wheel}
 use Rattle.rules.specs.Calls.{History}
 use Rattle.rules.specs.Lawful.{Lawful}

@@ -8,7 +8,7 @@ use Rattle.curve.specs.declared.Curve.TheVariants.{None, Straight, FrontLoaded, 
 use Rattle.tree.specs.declared.Tree.{Tree}
 use Rattle.tree.specs.Trees.{no_class}
 use Rattle.tree.specs.declared.Refusal.{Refusal}
-use Rattle.tree.specs.declared.Verdict.TheVariants.{Right, Refused}
+use Rattle.tree.specs.Verdicts.{all_right, refused}
 use Rattle.tree.specs.Numbers.{number_of}
 use Rattle.tree.specs.Rules.{Judged}
 use Rattle.rules.specs.declared.Rule.{Rule}
@@ -64,8 +64,8 @@ pub data Answer : Type 0 where
 
 -- a tree of two leaves with these curves is right, or it is refused with that number, which names class 0
 abbrev pub AnswerHolds : Tree → Answer → Type 0
-AnswerHolds tree fit = Judged tree Right
-AnswerHolds tree (refusal number) = (why : Refusal) × (number_of why ≡ number) × Judged tree (Refused why 0)
+AnswerHolds tree fit = Judged tree all_right
+AnswerHolds tree (refusal number) = (why : Refusal) × (number_of why ≡ number) × Judged tree (refused why 0)
 
 -- and the curves fit or not
 abbrev pub FitHolds : List Curve → Answer → Type 0

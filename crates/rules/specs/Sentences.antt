@@ -1,14 +1,12 @@
 -- Document 01's sentences that a definition does not say word for word. Each is a theorem of proofs/, of the name that stands with it here.
 -- Assumes nothing.
-use Rattle.std.specs.Prelude.{◌≡◌, ℕ, ◌+◌, ◌<◌, ◌≤◌, max, true, false, ◌&&◌, List, [], ◌∷◌, length, nat_le, nat_lt}
+use Rattle.rules.specs.Kinds.{Arrival, Departure}
+use Rattle.std.specs.Prelude.{◌≡◌, ℕ, ◌+◌, ◌<◌, ◌≤◌, max, true, false, ◌&&◌, List, [], ◌∷◌, length, nat_le, nat_lt, None, Ok, Err}
 use Rattle.curve.specs.Pieces.{VirtualTime}
 use Rattle.tree.specs.declared.Tree.{Tree}
 use Rattle.tree.specs.declared.Refusal.TheVariants.{NoSuchLeaf}
-use Rattle.tree.specs.declared.Verdict.{Verdict}
+use Rattle.tree.specs.Verdicts.{Verdict}
 use Rattle.tree.specs.Trees.{parent_of, share_of, is_child, is_leaf}
-use Rattle.rules.specs.declared.Arrival.{Arrival}
-use Rattle.rules.specs.declared.Departure.{Departure}
-use Rattle.rules.specs.declared.Departure.TheVariants.{NoneWaits}
 use Rattle.rules.specs.Limits.{longest, room, last_tick, most_bytes_accepted, wheel, too_far}
 use Rattle.rules.specs.Calls.{Call, came, idle, History}
 use Rattle.rules.specs.Clock.{clock, last_stamp}
@@ -113,10 +111,10 @@ DepartsSome = (h : History) → Lawful h → (stamp : ℕ) → (a : Departure) �
 abbrev pub NoClassesArrive : Type 0
 NoClassesArrive =
     (h : History) (stamp j n : ℕ) → h.tree.count ≡ 0 → nat_le too_far (ticks h stamp) ≡ false → nat_lt last_tick (next_clock h stamp) ≡ false
-    → Arrives h stamp j n (Arrival.Refused NoSuchLeaf) h
+    → Arrives h stamp j n (Err NoSuchLeaf) h
 
 -- "and departures that pass them find none waiting": `no_classes_depart`
 abbrev pub NoClassesDepart : Type 0
 NoClassesDepart =
     (h : History) → Lawful h → (stamp : ℕ) → h.tree.count ≡ 0 → nat_le too_far (ticks h stamp) ≡ false → nat_lt last_tick (next_clock h stamp) ≡ false
-    → Departs h stamp NoneWaits (with_call h (idle (next_clock h stamp)))
+    → Departs h stamp (Ok None) (with_call h (idle (next_clock h stamp)))

@@ -7,8 +7,6 @@ ghost use Rattle.std.specs.Prelude.{◌≡◌};
 ghost use Rattle.rules.specs.Limits as limits;
 ghost use Rattle.rules.specs.Clock.{elapsed_ticks};
 
-use tree::Refusal;
-
 // A packet's most bytes; the packets that may wait in a leaf; the last tick, and the most bytes accepted;
 // the fewest elapsed ticks that are too many.
 pub const LONGEST: u32 = 9000;
@@ -25,42 +23,28 @@ pub const TOO_FAR: u32 = 2147483648;
 const FRAMING: u64 = 8 + 12;
 
 // The rule by which a packet leaves.
-#[derive(Clone, Copy)]
+#[derive(Clone, Copy, PartialEq, Eq)]
 pub enum Rule {
     RealTime,
     Fair,
 }
 
 // Eligible time and deadline, for a leaf with a real-time curve.
-#[derive(Clone, Copy)]
-pub enum Times {
-    Untimed,
-    Timed { eligible: u64, deadline: u64 },
+#[derive(Clone, Copy, PartialEq, Eq)]
+pub struct Times {
+    pub eligible: u64,
+    pub deadline: u64,
 }
 
-// A packet that leaves: its class, its number within the leaf from 0, its length.
-#[derive(Clone, Copy)]
+// A packet that leaves: its class, its number within the leaf from 0, its length. An arrival answers the number of the packet or a
+// refusal, a departure a packet, or none where none waits, or a refusal.
+#[derive(Clone, Copy, PartialEq, Eq)]
 pub struct Packet {
     pub class: u32,
     pub number: u64,
     pub length: u32,
     pub rule: Rule,
-    pub times: Times,
-}
-
-// The answer of an arrival.
-#[derive(Clone, Copy)]
-pub enum Arrival {
-    Accepted { number: u64 },
-    Refused { why: Refusal },
-}
-
-// The answer of a departure.
-#[derive(Clone, Copy)]
-pub enum Departure {
-    Leaves { packet: Packet },
-    NoneWaits,
-    Refused { why: Refusal },
+    pub times: Option<Times>,
 }
 
 // What a packet of this length counts for, in bytes and in ticks of the link: itself and its framing.
@@ -74,5 +58,5 @@ pub fn weigh(length: u32) -> u64
 pub fn elapsed(stamp: u32, last: u32) -> u32
     ensures { result ≡ elapsed_ticks stamp last }
 {
-    std::num::wrapping_sub_u32(stamp, last)
+    stamp.wrapping_sub(last)
 }

@@ -1,5 +1,8 @@
 -- An arrival as a whole: its checks against document 01's, and the arrays after it show the longer history.
 -- Assumes nothing.
+use Rattle.std.specs.Prelude.{Ok, Err}
+use Rattle.rules.specs.Kinds.{Arrival}
+use Rattle.state.specs.Kinds.{NextClock}
 use Prim.Native.Nat.{ℕ, ◌+◌, ◌≤◌, ◌<◌}
 use native.Mathlib.Omega.{arith}
 use mathlib.Core.Path.{◌≡◌, refl, sym, ◌∙◌, ap, subst}
@@ -13,8 +16,6 @@ use Rattle.tree.specs.declared.Refusal.{Refusal}
 use Rattle.tree.specs.Numbers.{number_of}
 use Rattle.tree.specs.Trees.{is_leaf, curve_of}
 use Rattle.rules.proofs.Allowed.{allowed_admitted}
-use Rattle.rules.specs.declared.Arrival.{Arrival}
-use Rattle.rules.specs.declared.Arrival.TheVariants.{Accepted}
 use Rattle.rules.specs.Limits.{longest, room, last_tick, most_bytes_accepted, wheel, too_far, weigh}
 use Rattle.rules.specs.Calls.{Call, came, History}
 use Rattle.rules.specs.Clock.{clock, last_stamp}
@@ -29,14 +30,12 @@ use Rattle.rules.proofs.Queues.{waits_came}
 use Rattle.rules.proofs.Active.{numbers}
 use Rattle.rules.proofs.Answers.{arrives_lawful, stamp_kept}
 use Rattle.state.specs.Heads.{EveryHistory}
-use Rattle.state.specs.declared.ticks.NextClock.{NextClock}
-use Rattle.state.specs.declared.ticks.NextClock.TheVariants.{At, Refused}
 use Rattle.state.specs.Table.{at, with, header_at, with_header, CLASSES, CELLS, slot_of}
 use Rattle.state.specs.Columns.{HEADER, CLOCK, STAMP, ACCEPTED, COUNT, NEXT_NUMBER, HEAD_NUMBER, SENT_REAL_TIME, STEEP_START, STEEP_SENT, FLAT_START, FLAT_SENT, ELIGIBLE, DEADLINE}
 use Rattle.state.specs.State.{has_times, ShowsLeaf, ShowsSlots, Shows, Reached}
 use Rattle.sched.specs.Promises.{ArriveRight}
 use Rattle.state.specs.Steps.{kept_in, tick_of}
-use Rattle.sched.specs.StepsArriving.{BeforeBegin, AfterBegin, ShowsButClock, ReceiveAccepted, ReceiveRight, is_accepted}
+use Rattle.sched.specs.StepsArriving.{BeforeBegin, AfterBegin, ShowsButClock, ReceiveAccepted, ReceiveRefused}
 use Rattle.state.proofs.Cells.{length_with, at_with_same, at_with_class, at_with_column}
 use Rattle.state.proofs.Choosing.{count_most}
 use Rattle.state.proofs.LeafCells.{stored, kept_in_lem, tree_cells, fair_cells}
@@ -82,7 +81,7 @@ pub passed_allowed : (h : History) → Lawful h → (stamp j n : ℕ) → outcom
     → Allowed h.tree h.calls (came (next_clock h stamp) j n)
 unfolding LawfulCalls
 passed_allowed h law stamp j n e =
-    (arrives_lawful h law stamp j n (Accepted (next_number h.calls j)) (with_call h (came (next_clock h stamp) j n))
+    (arrives_lawful h law stamp j n (Ok (next_number h.calls j)) (with_call h (came (next_clock h stamp) j n))
     (record { checked = e; numbered = refl; after = refl })
     ).lawful.0
 
@@ -282,13 +281,13 @@ promised before answer = (answer, reached_after before.lawful (answer before.his
 module _ {m l : List ℕ} {h : History} (law : Lawful h) (s : Shows m l h) (stamp j n : ℕ) {r : NextClock}
     (ticked : r ≡ tick_of (header_at m CLOCK) (header_at m STAMP) stamp) where
   refused_right : {m' l' : List ℕ} (why : Refusal) → outcome (arrival_checks h.tree h.calls (ticks h stamp) j n) ≡ refused (number_of why) → Shows m' l' h
-      → ArriveRight h stamp j n (Arrival.Refused why) m' l'
+      → ArriveRight h stamp j n (Err why) m' l'
   refused_right why e shows = record { next = h; arrives = record { checked = e; after = refl }; shows = shows }
 
-  pub tick_refuses : (why : Refusal) → r ≡ Refused why → ArriveRight h stamp j n (Arrival.Refused why) m l
+  pub tick_refuses : (why : Refusal) → r ≡ Err why → ArriveRight h stamp j n (Err why) m l
   tick_refuses why e = refused_right why (tick_refused h stamp why (leaf_checks h.tree h.calls j n) (sym e ∙ ticked ∙ tick_shown law s stamp)) s
 
-  module _ (t : ℕ) (kept : r ≡ At t) where
+  module _ (t : ℕ) (kept : r ≡ Ok t) where
     now_is : (t ≡ next_clock h stamp) × ((leb too_far (ticks h stamp) ≡ false) × (ltb last_tick (next_clock h stamp) ≡ false))
     now_is = tick_kept h stamp t (sym kept ∙ ticked ∙ tick_shown law s stamp)
 
@@ -300,8 +299,9 @@ module _ {m l : List ℕ} {h : History} (law : Lawful h) (s : Shows m l h) (stam
         subst (λ (x : ℕ). Allowed h.tree h.calls (came x j n)) (sym now_is.0) (passed_allowed h law stamp j n (same_outcome ∙ opened))
 
     module _ (m' l' : List ℕ) where
-      accepted_right : {m'' : List ℕ} {number : ℕ} → stamp < wheel → ReceiveAccepted h t j n number m' l'
-          → m'' ≡ with_header (with_header m' CLOCK t) STAMP stamp → ArriveRight h stamp j n (Accepted number) m'' l'
+      -- the clock is moved where the arrival was accepted
+      pub accepted_right : {m'' : List ℕ} {number : ℕ} → stamp < wheel → ReceiveAccepted h t j n number m' l'
+          → m'' ≡ with_header (with_header m' CLOCK t) STAMP stamp → ArriveRight h stamp j n (Ok number) m'' l'
       unfolding clock
       accepted_right small a moved =
           let last : last_stamp h.first (came t j n ∷ h.calls) ≡ stamp = stamp_kept h stamp (came t j n) small now_is.0 in
@@ -314,12 +314,6 @@ module _ {m l : List ℕ} {h : History} (law : Lawful h) (s : Shows m l h) (stam
                 (clock_moved t stamp (count_most h.tree law.grown) a.right.shows refl (sym last)));
           }
 
-      -- the clock is moved where the arrival was accepted, and left where it was refused
-      pub moved_right : {m'' : List ℕ} (a : Arrival) → is_accepted a ≡ true → ReceiveRight h t j n a m' l' → stamp < wheel
-          → m'' ≡ with_header (with_header m' CLOCK t) STAMP stamp → ArriveRight h stamp j n a m'' l'
-      moved_right (Accepted number) e right small moved = accepted_right small right moved
-      moved_right (Arrival.Refused why) e right small moved = absurd (mathlib.Core.Bool.false≢true e)
-
-      pub unmoved_right : (a : Arrival) → is_accepted a ≡ false → ReceiveRight h t j n a m' l' → ArriveRight h stamp j n a m' l'
-      unmoved_right (Accepted number) e right = absurd (mathlib.Core.Bool.false≢true (sym e))
-      unmoved_right (Arrival.Refused why) e right = refused_right why (same_outcome ∙ right.checked) right.shows
+      -- and left where it was refused
+      pub unmoved_right : (why : Refusal) → ReceiveRefused h j n why m' l' → ArriveRight h stamp j n (Err why) m' l'
+      unmoved_right why right = refused_right why (same_outcome ∙ right.checked) right.shows

@@ -1,6 +1,7 @@
 -- What a state shows to one who asks: the clock, how many packets wait in a class, its virtual time, and the times of its head; and that each
 -- question has one answer.
 -- Assumes nothing.
+use Rattle.std.specs.Prelude.{Some, None, Option}
 use Prim.Native.Nat.{ℕ, ◌+◌, ◌-◌, ◌≤◌, ◌<◌}
 use native.Mathlib.Omega.{arith}
 use mathlib.Core.Path.{◌≡◌, refl, sym, ◌∙◌, ap, ap₂}
@@ -13,7 +14,6 @@ use Rattle.curve.proofs.Laws.Answers.{least_one}
 use Rattle.tree.specs.declared.Tree.{Tree}
 use Rattle.tree.specs.Trees.{share_of}
 use Rattle.rules.specs.declared.Times.{Times}
-use Rattle.rules.specs.declared.Times.TheVariants.{Untimed, Timed}
 use Rattle.rules.specs.Calls.{Call, came, left, idle, History}
 use Rattle.rules.specs.Clock.{clock}
 use Rattle.rules.specs.Queues.{queue, is_nonempty, waits}
@@ -146,13 +146,14 @@ pub shown_one : (f : History → ℕ) {m l : List ℕ} → Reached m l → (a b 
 shown_one f reached a b first second =
     first reached.history reached.lawful reached.shows ∙ sym (second reached.history reached.lawful reached.shows)
 
-head_one : (tree : Tree) (cs : List Call) (j : ℕ) (a b : Times) → HeadTimes tree cs j a → HeadTimes tree cs j b → a ≡ b
-head_one tree cs j Untimed Untimed p q = refl
-head_one tree cs j Untimed (Timed e d) p q = never q.timed p
-head_one tree cs j (Timed e d) Untimed p q = never p.timed q
-head_one tree cs j (Timed e d) (Timed e' d') p q = ap₂ Timed (least_one p.is_eligible q.is_eligible) (least_one p.is_deadline q.is_deadline)
+head_one : (tree : Tree) (cs : List Call) (j : ℕ) (a b : Option Times) → HeadTimes tree cs j a → HeadTimes tree cs j b → a ≡ b
+head_one tree cs j None None p q = refl
+head_one tree cs j None (Some t) p q = never q.timed p
+head_one tree cs j (Some s) None p q = never p.timed q
+head_one tree cs j (Some s) (Some t) p q =
+    ap₂ (λ e d. Some (record { eligible = e; deadline = d })) (least_one p.is_eligible q.is_eligible) (least_one p.is_deadline q.is_deadline)
 
-pub head_times_one : {m l : List ℕ} → Reached m l → (class : ℕ) (a b : Times)
+pub head_times_one : {m l : List ℕ} → Reached m l → (class : ℕ) (a b : Option Times)
     → EveryHistory m l (λ h. HeadTimes h.tree h.calls class a)
     → EveryHistory m l (λ h. HeadTimes h.tree h.calls class b) → a ≡ b
 head_times_one reached class a b first second =

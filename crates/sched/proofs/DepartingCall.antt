@@ -1,12 +1,13 @@
 -- The call of a departure: its tick and its checks, the table that the choice reads, and the clock that is moved at the end.
 -- Assumes nothing.
+use Rattle.std.specs.Prelude.{Some, None, Ok, Err}
+use Rattle.rules.specs.Kinds.{Departure}
+use Rattle.state.specs.Kinds.{NextClock}
 use Prim.Native.Nat.{ℕ, ◌<◌}
 use mathlib.Core.Path.{◌≡◌, refl, sym, ◌∙◌, ap, subst, transport}
 use mathlib.Core.List.{List, [], ◌∷◌}
 use Rattle.tree.specs.declared.Tree.{Tree}
 use Rattle.tree.specs.declared.Refusal.{Refusal}
-use Rattle.rules.specs.declared.Departure.{Departure}
-use Rattle.rules.specs.declared.Departure.TheVariants.{Leaves, NoneWaits}
 use Rattle.rules.specs.declared.Packet.{Packet}
 use Rattle.rules.specs.declared.Rule.{Rule}
 use Rattle.rules.specs.Limits.{wheel}
@@ -20,7 +21,6 @@ use Rattle.rules.specs.Choice.{Choice, NothingWaits}
 use Rattle.rules.specs.Lawful.{Allowed, Lawful}
 use Rattle.rules.specs.Answers.{passed, outcome, ticks, next_clock, departure_checks, with_call}
 use Rattle.rules.proofs.Answers.{departs_lawful, stamp_kept}
-use Rattle.state.specs.declared.ticks.NextClock.{NextClock}
 use Rattle.state.specs.Table.{header_at, with_header}
 use Rattle.state.specs.Columns.{CLOCK, STAMP}
 use Rattle.state.specs.State.{activity, ShowsFair, Shows, Reached}
@@ -37,7 +37,7 @@ use Rattle.sched.proofs.Arriving.{clock_moved}
 
 module _ {m l : List ℕ} (h : History) (law : Lawful h) (shows : Shows m l h) (stamp : ℕ) {r : NextClock}
     (ticked : r ≡ tick_of (header_at m CLOCK) (header_at m STAMP) stamp) where
-  pub refused_right : (why : Refusal) → r ≡ NextClock.Refused why → DepartRight h stamp (Departure.Refused why) m l
+  pub refused_right : (why : Refusal) → r ≡ Err why → DepartRight h stamp (Err why) m l
   refused_right why e =
       record {
         next = h;
@@ -79,7 +79,7 @@ module _ {m l : List ℕ} {h : History} (law : Lawful h) (shows : Shows m l h) w
 module _ {m' : List ℕ} (h : History) (law : Lawful h) (stamp : ℕ) (narrow : stamp < wheel) {now : ℕ} where
   module _ {m l : List ℕ} (shows : Shows m l h) where
     pub none_right : outcome (departure_checks h.calls (ticks h stamp)) ≡ passed → now ≡ next_clock h stamp → NothingWaits h.calls → m' ≡ with_header (with_header m CLOCK now) STAMP stamp
-        → DepartRight h stamp NoneWaits m' l
+        → DepartRight h stamp (Ok None) m' l
     none_right passes isNow nothing stored =
         record {
           next = with_call h (idle now);
@@ -94,7 +94,7 @@ module _ {m' : List ℕ} (h : History) (law : Lawful h) (stamp : ℕ) (narrow : 
 
   module _ {m l : List ℕ} {p : Packet} {j : ℕ} {r : Rule} where
     pub leaves_right : outcome (departure_checks h.calls (ticks h stamp)) ≡ passed → now ≡ next_clock h stamp → Allowed h.tree h.calls (left now j r)
-        → TakeRight h now j r p m l → m' ≡ with_header (with_header m CLOCK now) STAMP stamp → DepartRight h stamp (Leaves p) m' l
+        → TakeRight h now j r p m l → m' ≡ with_header (with_header m CLOCK now) STAMP stamp → DepartRight h stamp (Ok (Some p)) m' l
     leaves_right passes isNow allowed taken stored =
         record {
           next = with_call h (left now j r);

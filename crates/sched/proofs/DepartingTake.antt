@@ -1,5 +1,6 @@
 -- The head of the leaf that the rules choose is taken: what the arrays hold at each step, and that they show the longer history at the end.
 -- Assumes nothing.
+use Rattle.std.specs.Prelude.{Some, None, Option}
 use Prim.Native.Nat.{ℕ, ◌+◌, ◌≤◌, ◌<◌}
 use mathlib.Core.Path.{◌≡◌, refl, sym, ◌∙◌, ap, subst}
 use mathlib.Core.Bool.{Bool, true, false}
@@ -16,7 +17,6 @@ use Rattle.tree.specs.Rules.{RightTree}
 use Rattle.rules.specs.declared.Rule.{Rule}
 use Rattle.rules.specs.declared.Rule.TheVariants.{RealTime, Fair}
 use Rattle.rules.specs.declared.Times.{Times}
-use Rattle.rules.specs.declared.Times.TheVariants.{Untimed, Timed}
 use Rattle.rules.specs.Limits.{most_bytes_accepted, longest, weigh}
 use Rattle.rules.specs.Calls.{Call, left, History}
 use Rattle.rules.specs.Queues.{queue, is_nonempty, waits, head_length, head_number, accepted_in, accepted}
@@ -88,7 +88,7 @@ module _ (m : List ℕ) (j number : ℕ) (size : length m ≡ CELLS) (class : j 
   moved_counted t cs Fair e = subst (Moved m first j number) (e ∙ sym (bytes_fair t j cs j)) moved_first
 
 -- times as the columns have them
-pick_times_lem : (P : Times → Type 0) (b : Bool) (x y : Times) → (b ≡ true → P x) → (b ≡ false → P y) → P (pick_times b x y)
+pick_times_lem : (P : Option Times → Type 0) (b : Bool) (x y : Option Times) → (b ≡ true → P x) → (b ≡ false → P y) → P (pick_times b x y)
 pick_times_lem P true x y f g = f refl
 pick_times_lem P false x y f g = g refl
 
@@ -158,7 +158,7 @@ module _ {m l : List ℕ} (h : History) (law : Lawful h) (shows : Shows m l h) (
   unfolding times_in
   take_times =
       let kind = (shows.trees j take_below).kind in
-      pick_times_lem (TimesOf tree cs j) (eqb (at m j KIND) 0) Untimed (Timed (at m j ELIGIBLE) (at m j DEADLINE))
+      pick_times_lem (TimesOf tree cs j) (eqb (at m j KIND) 0) None (Some (record { eligible = (at m j ELIGIBLE); deadline = (at m j DEADLINE) }))
       (λ e. kind_none (curve_of tree j) (sym kind ∙ eqb-true (at m j KIND) 0 e))
       (λ e.
       let curved = kind_some (curve_of tree j) (λ q. eqb-false (at m j KIND) 0 e (kind ∙ q)) in

@@ -1,12 +1,11 @@
 -- Each call's promise allows one result: two that it allows of the same state are equal. And a refused call leaves the state as it was.
 -- Assumes nothing.
+use Rattle.rules.specs.Kinds.{Arrival, Departure}
 use Prim.Native.Nat.{ℕ}
 use mathlib.Core.Path.{◌≡◌, subst}
 use mathlib.Core.List.{List}
 use Rattle.tree.specs.declared.Tree.{Tree}
-use Rattle.tree.specs.declared.Verdict.{Verdict}
-use Rattle.rules.specs.declared.Arrival.{Arrival}
-use Rattle.rules.specs.declared.Departure.{Departure}
+use Rattle.tree.specs.Verdicts.{Verdict}
 use Rattle.rules.specs.Calls.{History}
 use Rattle.rules.proofs.Answers.{starts_one, arrives_one, departs_one}
 use Rattle.state.specs.State.{Shows, Reached}

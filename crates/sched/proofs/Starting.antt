@@ -4,7 +4,7 @@ use Prim.Native.Nat.{ℕ, ◌<◌}
 use mathlib.Core.Path.{refl}
 use mathlib.Core.List.{List}
 use Rattle.tree.specs.declared.Tree.{Tree}
-use Rattle.tree.specs.declared.Verdict.{Verdict}
+use Rattle.tree.specs.Verdicts.{Verdict}
 use Rattle.tree.specs.Rules.{Judged}
 use Rattle.rules.specs.Limits.{wheel}
 use Rattle.rules.specs.Answers.{started, Starts}

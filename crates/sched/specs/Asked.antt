@@ -1,9 +1,8 @@
 -- What a host may ask of a state, where the answer is no number that the rules name already.
 -- Assumes nothing.
-use Rattle.std.specs.Prelude.{ℕ, ◌≡◌, true, false, List}
+use Rattle.std.specs.Prelude.{ℕ, ◌≡◌, true, false, List, Some, None, Option}
 use Rattle.tree.specs.declared.Tree.{Tree}
 use Rattle.rules.specs.declared.Times.{Times}
-use Rattle.rules.specs.declared.Times.TheVariants.{Untimed, Timed}
 use Rattle.rules.specs.Calls.{Call}
 use Rattle.rules.specs.Leaves.{DeadlineOf, EligibleOf}
 use Rattle.state.specs.State.{has_times}
@@ -14,6 +13,6 @@ pub record HeadTimed (tree : Tree) (cs : List Call) (j eligible deadline : ℕ) 
   pub is_deadline : DeadlineOf tree cs j deadline
 
 -- "for a leaf with a real-time curve eligible time and deadline" of the head packet; untimed where no packet waits or the class has no real-time curve
-abbrev pub HeadTimes : Tree → List Call → ℕ → Times → Type 0
-HeadTimes tree cs j Untimed = has_times tree cs j ≡ false
-HeadTimes tree cs j (Timed eligible deadline) = HeadTimed tree cs j eligible deadline
+abbrev pub HeadTimes : Tree → List Call → ℕ → Option Times → Type 0
+HeadTimes tree cs j None = has_times tree cs j ≡ false
+HeadTimes tree cs j (Some times) = HeadTimed tree cs j times.eligible times.deadline

@@ -1,11 +1,10 @@
 -- What each call of the scheduler promises: its answer is the one by document 01's definitions, and the arrays then show the history after it.
 -- Assumes nothing.
-use Rattle.std.specs.Prelude.{ℕ, ◌≡◌, List}
+use Rattle.rules.specs.Kinds.{Arrival, Departure}
+use Rattle.std.specs.Prelude.{ℕ, ◌≡◌, List, Err}
 use Rattle.tree.specs.declared.Tree.{Tree}
 use Rattle.tree.specs.declared.Refusal.{Refusal}
-use Rattle.tree.specs.declared.Verdict.{Verdict}
-use Rattle.rules.specs.declared.Arrival.{Arrival}
-use Rattle.rules.specs.declared.Departure.{Departure}
+use Rattle.tree.specs.Verdicts.{Verdict}
 use Rattle.rules.specs.Calls.{History}
 use Rattle.rules.specs.Answers.{Starts, Arrives, Departs}
 use Rattle.state.specs.State.{Shows, Reached}
@@ -33,10 +32,10 @@ pub record DepartRight (h : History) (stamp : ℕ) (answer : Departure) (m l : L
 abbrev pub ArriveRefused : Type 0
 ArriveRefused =
     (m₀ l₀ : List ℕ) → Reached m₀ l₀ → (stamp class bytes : ℕ) (why : Refusal) (m l : List ℕ)
-    → EveryHistory m₀ l₀ (λ h. ArriveRight h stamp class bytes (Arrival.Refused why) m l) → (m ≡ m₀) × (l ≡ l₀)
+    → EveryHistory m₀ l₀ (λ h. ArriveRight h stamp class bytes (Err why) m l) → (m ≡ m₀) × (l ≡ l₀)
 
 -- and so does a departure that is refused
 abbrev pub DepartRefused : Type 0
 DepartRefused =
     (m₀ l₀ : List ℕ) → Reached m₀ l₀ → (stamp : ℕ) (why : Refusal) (m l : List ℕ)
-    → EveryHistory m₀ l₀ (λ h. DepartRight h stamp (Departure.Refused why) m l) → (m ≡ m₀) × (l ≡ l₀)
+    → EveryHistory m₀ l₀ (λ h. DepartRight h stamp (Err why) m l) → (m ≡ m₀) × (l ≡ l₀)

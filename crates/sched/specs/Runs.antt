@@ -1,10 +1,9 @@
 -- Runs of the scheduler: a start, and then calls, each as its promise says.
 -- Assumes nothing.
+use Rattle.rules.specs.Kinds.{Arrival, Departure}
 use Rattle.std.specs.Prelude.{ℕ, ◌<◌, ◌^◌, List}
 use Rattle.tree.specs.declared.Tree.{Tree}
-use Rattle.tree.specs.declared.Verdict.{Verdict}
-use Rattle.rules.specs.declared.Arrival.{Arrival}
-use Rattle.rules.specs.declared.Departure.{Departure}
+use Rattle.tree.specs.Verdicts.{Verdict}
 use Rattle.rules.specs.Calls.{History}
 use Rattle.rules.specs.Link.{Link}
 use Rattle.rules.specs.Guarantee.{Guaranteed}

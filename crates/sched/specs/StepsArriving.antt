@@ -1,27 +1,23 @@
 -- What the steps of an arrival make of the table: the small definitions that their promises cite.
 -- Assumes nothing.
-use Rattle.std.specs.Prelude.{ℕ, ◌≤◌, ◌<◌, ◌≡◌, Bool, true, false, List, ◌∷◌, length}
+use Rattle.rules.specs.Kinds.{Arrival}
+use Rattle.std.specs.Prelude.{ℕ, ◌≤◌, ◌<◌, ◌≡◌, List, ◌∷◌, length, Result, Ok, Err}
 use Rattle.tree.specs.declared.Tree.{Tree}
 use Rattle.tree.specs.declared.Refusal.{Refusal}
 use Rattle.tree.specs.Numbers.{number_of}
-use Rattle.rules.specs.declared.Arrival.{Arrival}
-use Rattle.rules.specs.declared.Arrival.TheVariants.{Accepted}
 use Rattle.rules.specs.Calls.{Call, came, History}
 use Rattle.rules.specs.Queues.{next_number, accepted}
 use Rattle.rules.specs.Checks.{outcome, passed, refused, leaf_checks}
 use Rattle.rules.specs.Answers.{with_call}
-use Rattle.sched.specs.declared.Admission.{Admission}
-use Rattle.sched.specs.declared.Admission.TheVariants.{Open}
-use Rattle.state.specs.declared.ticks.NextClock.TheVariants.{At}
 use Rattle.state.specs.Table.{at, header_at, CLASSES, COLUMNS, CELLS, PLACES}
 use Rattle.state.specs.Columns.{header_cells, CLOCK, STAMP, ACCEPTED, COUNT, times_from, fair_from}
 use Rattle.state.specs.State.{ShowsTree, ShowsLeaf, ShowsFair, ShowsSlots, Shows, Reached}
 use Rattle.state.specs.Steps.{tick_of, LeafTimed, BeforeTiming}
 
 -- the verdict of an arrival's checks that look at the leaf
-abbrev pub AdmissionRight : History → ℕ → ℕ → Admission → Type 0
-AdmissionRight h j n Open = outcome (leaf_checks h.tree h.calls j n) ≡ passed
-AdmissionRight h j n (Admission.Refused why) = outcome (leaf_checks h.tree h.calls j n) ≡ refused (number_of why)
+abbrev pub AdmissionRight : History → ℕ → ℕ → Result Unit Refusal → Type 0
+AdmissionRight h j n (Ok tt) = outcome (leaf_checks h.tree h.calls j n) ≡ passed
+AdmissionRight h j n (Err why) = outcome (leaf_checks h.tree h.calls j n) ≡ refused (number_of why)
 
 -- a packet has come into an empty leaf, and was counted
 pub record BeforeBegin (m : List ℕ) (tree : Tree) (cs : List Call) (j t n : ℕ) : Type 0 where
@@ -59,7 +55,7 @@ pub record AcceptRight (h : History) (t j n number : ℕ) (m l : List ℕ) : Typ
 pub record Receivable (m l : List ℕ) (t : ℕ) : Type 0 where
   pub reached : Reached m l
   pub stamp : ℕ
-  pub ticked : At t ≡ tick_of (header_at m CLOCK) (header_at m STAMP) stamp
+  pub ticked : Ok t ≡ tick_of (header_at m CLOCK) (header_at m STAMP) stamp
 
 pub record ReceiveAccepted (h : History) (t j n number : ℕ) (m l : List ℕ) : Type 0 where
   pub checked : outcome (leaf_checks h.tree h.calls j n) ≡ passed
@@ -71,9 +67,5 @@ pub record ReceiveRefused (h : History) (j n : ℕ) (why : Refusal) (m l : List 
   pub shows : Shows m l h
 
 abbrev pub ReceiveRight : History → (t j n : ℕ) → Arrival → (m l : List ℕ) → Type 0
-ReceiveRight h t j n (Accepted number) m l = ReceiveAccepted h t j n number m l
-ReceiveRight h t j n (Arrival.Refused why) m l = ReceiveRefused h j n why m l
-
-abbrev pub is_accepted : Arrival → Bool
-is_accepted (Accepted number) = true
-is_accepted (Arrival.Refused why) = false
+ReceiveRight h t j n (Ok number) m l = ReceiveAccepted h t j n number m l
+ReceiveRight h t j n (Err why) m l = ReceiveRefused h j n why m l

@@ -11,86 +11,58 @@ ghost use Rattle.rules.specs.Lawful.{Allowed};
 ghost use Rattle.state.specs.State.{Reached};
 ghost use Rattle.state.specs.Heads.{Some, SomeCalls, SomeHistory, EveryCalls, EveryHistory};
 ghost use Rattle.sched.specs.Promises.{StartRight, ArriveRight, DepartRight};
-ghost use Rattle.sched.specs.StepsArriving.{AdmissionRight, BeforeBegin, AfterBegin, AcceptRight, Receivable, ReceiveRight, is_accepted};
+ghost use Rattle.sched.specs.StepsArriving.{AdmissionRight, BeforeBegin, AfterBegin, AcceptRight, Receivable, ReceiveRight};
 ghost use Rattle.sched.specs.StepsDeparting.{BeforeSettle, AfterSettle, TakeRight};
 
 use fair::{raise, rest, wake};
-use rules::{Arrival, Departure, Packet, Rule};
-use state::choice::{Sender, choose};
+use rules::{Packet, Rule};
+use state::choice::choose;
 use state::leaf::{count_bytes, put_times, time_first, time_next, times_of};
 use state::planting::{clear_lengths, clear_words, link, plant};
 use state::table::{
     ACCEPTED, CHILD, COUNT, HEAD_NUMBER, Lengths, NEVER, NEXT_NUMBER, STAMP, Words, get, header,
     length_of, put, put_header, put_length,
 };
-use state::ticks::{NextClock, move_clock, tick};
-use tree::{Refusal, Tree, Verdict};
+use state::ticks::{move_clock, tick};
+use tree::{Fault, Refusal, Tree};
 
 pub mod readers;
-// Whether an arrival can be accepted.
-#[derive(Clone, Copy)]
-enum Admission {
-    Open,
-    Refused { why: Refusal },
-}
-
 // A state started from the tree, at time 0 with this stamp; a state of no classes where the tree is
 // refused.
-pub fn start(tree: Tree, stamp: u32, words: &mut Words, lengths: &mut Lengths) -> Verdict
+pub fn start(tree: Tree, stamp: u32, words: &mut Words, lengths: &mut Lengths) -> Result<(), Fault>
     ensures right { StartRight tree stamp result words.new lengths.new }
     ensures reached { Reached words.new lengths.new }
 {
     clear_words(words);
     clear_lengths(lengths);
     put_header(words, STAMP, stamp as u64);
-    match tree::check(tree) {
-        Verdict::Right => {
-            put_header(words, COUNT, tree.count as u64);
-            plant(words, tree);
-            link(words, tree);
-            Verdict::Right
-        }
-        Verdict::Refused { why, class } => Verdict::Refused { why, class },
-    }
+    tree::check(tree)?;
+    put_header(words, COUNT, tree.count as u64);
+    plant(words, tree);
+    link(words, tree);
+    Ok(())
 }
 
 // The refusals 11, 12, 13 and 16 of an arrival.
-fn admit(words: &Words, class: u32, length: u32) -> Admission
+fn admit(words: &Words, class: u32, length: u32) -> Result<(), Refusal>
     requires { Some (λ l. Reached words.now l) }
     ensures { (l : List ℕ) → EveryHistory words.now l (λ h. AdmissionRight h class length result) }
 {
-    let refused = Admission::Refused {
-        why: Refusal::NoSuchLeaf,
-    };
-    if header(words, COUNT) <= class as u64 {
-        return refused;
-    }
     let leaf = class as usize;
-    if get(words, leaf, CHILD) != 0 {
-        return refused;
+    if header(words, COUNT) <= class as u64 || get(words, leaf, CHILD) != 0 {
+        return Err(Refusal::NoSuchLeaf);
     }
-    if length < 1 {
-        return Admission::Refused {
-            why: Refusal::WrongLength,
-        };
-    }
-    if rules::LONGEST < length {
-        return Admission::Refused {
-            why: Refusal::WrongLength,
-        };
+    if length < 1 || rules::LONGEST < length {
+        return Err(Refusal::WrongLength);
     }
     if rules::ROOM <= get(words, leaf, NEXT_NUMBER) - get(words, leaf, HEAD_NUMBER) {
-        return Admission::Refused {
-            why: Refusal::LeafFull,
-        };
+        return Err(Refusal::LeafFull);
     }
     let bytes = rules::weigh(length);
     if rules::MOST_BYTES < header(words, ACCEPTED) + bytes {
-        return Admission::Refused {
-            why: Refusal::BytesFull,
-        };
+        return Err(Refusal::BytesFull);
     }
-    Admission::Open
+    Ok(())
 }
 
 // A backlog instant: a piece, the times of the head, and the leaf turns active.
@@ -120,26 +92,18 @@ fn accept(words: &mut Words, lengths: &mut Lengths, tick: u64, class: usize, len
 }
 
 // An arrival at a tick that the clock may have: refused, with every cell as it was, or accepted.
-fn receive(words: &mut Words, lengths: &mut Lengths, tick: u64, class: u32, length: u32) -> Arrival
+fn receive(
+    words: &mut Words,
+    lengths: &mut Lengths,
+    tick: u64,
+    class: u32,
+    length: u32,
+) -> Result<u64, Refusal>
     requires { Receivable words.old lengths.old tick }
     ensures { EveryHistory words.old lengths.old (λ h. ReceiveRight h tick class length result words.new lengths.new) }
 {
-    match admit(words, class, length) {
-        Admission::Refused { why } => Arrival::Refused { why },
-        Admission::Open => {
-            let number = accept(words, lengths, tick, class as usize, length);
-            Arrival::Accepted { number }
-        }
-    }
-}
-
-fn is_accepted(answer: Arrival) -> bool
-    ensures { result ≡ is_accepted answer }
-{
-    match answer {
-        Arrival::Accepted { number: _ } => true,
-        Arrival::Refused { why: _ } => false,
-    }
+    admit(words, class, length)?;
+    Ok(accept(words, lengths, tick, class as usize, length))
 }
 
 // A packet of this length arrives for this class.
@@ -149,21 +113,15 @@ pub fn arrive(
     stamp: u32,
     class: u32,
     length: u32,
-) -> Arrival
+) -> Result<u64, Refusal>
     requires { Reached words.old lengths.old }
     ensures right { EveryHistory words.old lengths.old (λ h. ArriveRight h stamp class length result words.new lengths.new) }
     ensures reached { Reached words.new lengths.new }
 {
-    match tick(words, stamp) {
-        NextClock::Refused { why } => Arrival::Refused { why },
-        NextClock::At(now) => {
-            let answer = receive(words, lengths, now, class, length);
-            if is_accepted(answer) {
-                move_clock(words, now, stamp);
-            }
-            answer
-        }
-    }
+    let now = tick(words, stamp)?;
+    let number = receive(words, lengths, now, class, length)?;
+    move_clock(words, now, stamp);
+    Ok(number)
 }
 
 // The leaf after its head left: the next head's times, or the leaf turns passive.
@@ -195,9 +153,8 @@ fn take(words: &mut Words, lengths: &mut Lengths, class: usize, rule: Rule) -> P
     count_bytes(words, class, rule, bytes);
     raise(words, class, bytes);
     settle(words, lengths, class, rule);
-    let leaf = class as u32;
     Packet {
-        class: leaf,
+        class: class as u32,
         number,
         length,
         rule,
@@ -206,23 +163,21 @@ fn take(words: &mut Words, lengths: &mut Lengths, class: usize, rule: Rule) -> P
 }
 
 // The link asks for a packet.
-pub fn depart(words: &mut Words, lengths: &mut Lengths, stamp: u32) -> Departure
+pub fn depart(
+    words: &mut Words,
+    lengths: &mut Lengths,
+    stamp: u32,
+) -> Result<Option<Packet>, Refusal>
     requires { Reached words.old lengths.old }
     ensures right { EveryHistory words.old lengths.old (λ h. DepartRight h stamp result words.new lengths.new) }
     ensures reached { Reached words.new lengths.new }
 {
-    match tick(words, stamp) {
-        NextClock::Refused { why } => Departure::Refused { why },
-        NextClock::At(now) => match choose(words, now) {
-            Sender::Nothing => {
-                move_clock(words, now, stamp);
-                Departure::NoneWaits
-            }
-            Sender::Leaf { class, rule } => {
-                let packet = take(words, lengths, class, rule);
-                move_clock(words, now, stamp);
-                Departure::Leaves { packet }
-            }
-        },
-    }
+    let now = tick(words, stamp)?;
+    let Some(sender) = choose(words, now) else {
+        move_clock(words, now, stamp);
+        return Ok(None);
+    };
+    let packet = take(words, lengths, sender.class, sender.rule);
+    move_clock(words, now, stamp);
+    Ok(Some(packet))
 }

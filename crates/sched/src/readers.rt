@@ -45,20 +45,20 @@ pub fn virtual_time(words: &Words, lengths: &Lengths, class: u32) -> u64
 }
 
 // The eligible time and the deadline of a leaf's head.
-pub fn head_times(words: &Words, lengths: &Lengths, class: u32) -> Times
+pub fn head_times(words: &Words, lengths: &Lengths, class: u32) -> Option<Times>
     requires { Reached words.now lengths.now }
     ensures { EveryHistory words.now lengths.now (λ h. HeadTimes h.tree h.calls class result) }
 {
     if header(words, COUNT) <= class as u64 {
-        return Times::Untimed;
+        return None;
     }
     let leaf = class as usize;
     let eligible = get(words, leaf, ELIGIBLE);
     if eligible == NEVER {
-        return Times::Untimed;
+        return None;
     }
-    Times::Timed {
+    Some(Times {
         eligible,
         deadline: get(words, leaf, DEADLINE),
-    }
+    })
 }

@@ -1,5 +1,6 @@
 -- The first of the classes that are meant: what a walk in increasing order keeps, of the classes passed, is what the rules of the choice ask.
 -- Assumes nothing.
+use Rattle.std.specs.Prelude.{Some, None}
 use Prim.Native.Nat.{ℕ, suc, ◌+◌, ◌≤◌, ◌<◌}
 use mathlib.Core.Path.{◌≡◌, refl, sym, ◌∙◌, ap, subst}
 use mathlib.Core.Bool.{true, false, ◌&&◌}
@@ -26,7 +27,6 @@ use Rattle.rules.proofs.Active.{interior_active}
 use Rattle.rules.proofs.Leaves.{deadline_below}
 use Rattle.rules.proofs.Fair.{virtual_most}
 use Rattle.rules.proofs.Sent.{w_most}
-use Rattle.state.specs.declared.choice.LeafFound.{LeafFound}
 use Rattle.state.specs.Table.{at, CLASSES}
 use Rattle.state.specs.Columns.{ELIGIBLE, DEADLINE, CHILD, SIBLING, VIRTUAL, ACTIVE, NEVER}
 use Rattle.state.specs.State.{has_times, next_sibling}
@@ -143,7 +143,7 @@ module _ (m : List ℕ) (tree : Tree) (cs : List Call) (told : Told m tree cs) (
       (decided (has_times tree cs k))
 
   module _ (n least best : ℕ) (all : n ≡ tree.count) (looked : Looked m tick n least best) where
-    pub soonest_some : (least ≡ NEVER → ⊥) → Soonest tree cs tick (LeafFound.At best)
+    pub soonest_some : (least ≡ NEVER → ⊥) → Soonest tree cs tick (Some best)
     soonest_some some =
         let leads = looked.met some in
         record {
@@ -158,7 +158,7 @@ module _ (m : List ℕ) (tree : Tree) (cs : List Call) (told : Told m tree cs) (
               };
         }
 
-    pub soonest_none : least ≡ NEVER → Soonest tree cs tick LeafFound.Nothing
+    pub soonest_none : least ≡ NEVER → Soonest tree cs tick None
     soonest_none e = λ k d c.
         let (below, ripe, due) = contends_cell k d c in
         omega (arith, looked.passed k (omega arith) ripe, deadline_below tree told.grown cs told.lawful k d c.waiting c.curved c.is_deadline)

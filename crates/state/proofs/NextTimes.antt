@@ -1,5 +1,6 @@
 -- The times of a leaf's head, and the count of its bytes, as the code makes them.
 -- Assumes nothing.
+use Rattle.std.specs.Prelude.{Some, None}
 use Prim.Native.Nat.{ℕ, ◌+◌}
 use mathlib.Core.Path.{◌≡◌, refl, ◌∙◌}
 use mathlib.Core.List.{List}
@@ -7,18 +8,17 @@ use borrow.Author.Tests.{eq-eqb, ne_eqb}
 use Rattle.curve.specs.Keeping.{early}
 use Rattle.rules.specs.declared.Rule.{Rule}
 use Rattle.rules.specs.declared.Rule.TheVariants.{RealTime, Fair}
-use Rattle.rules.specs.declared.Times.TheVariants.{Untimed, Timed}
 use Rattle.state.specs.Table.{at, with}
 use Rattle.state.specs.Columns.{KIND, SENT_REAL_TIME, ELIGIBLE, DEADLINE}
 use Rattle.state.specs.Steps.{curve_in, counted, times_in, SentIsDue, RipeTick, NextRipe}
 
-pub times_bare : (m : List ℕ) (i : ℕ) → at m i KIND ≡ 0 → Untimed ≡ times_in m i
+pub times_bare : (m : List ℕ) (i : ℕ) → at m i KIND ≡ 0 → None ≡ times_in m i
 unfolding times_in
 times_bare m i e = rw (eq-eqb (at m i KIND) 0 e) refl
 
-pub times_some : (m : List ℕ) (i : ℕ) → (at m i KIND ≡ 0 → ⊥) → {e d : ℕ} → e ≡ at m i ELIGIBLE → d ≡ at m i DEADLINE → Timed e d ≡ times_in m i
+pub times_some : (m : List ℕ) (i : ℕ) → (at m i KIND ≡ 0 → ⊥) → {e d : ℕ} → e ≡ at m i ELIGIBLE → d ≡ at m i DEADLINE → Some (record { eligible = e; deadline = d }) ≡ times_in m i
 unfolding times_in
-times_some m i n p q = rw (ne_eqb (at m i KIND) 0 n) (λ k. Timed (p k) (q k))
+times_some m i n p q = rw (ne_eqb (at m i KIND) 0 n) (λ k. Some (record { eligible = (p k); deadline = (q k) }))
 
 pub counted_real : (m : List ℕ) (i : ℕ) (r : Rule) (bytes : ℕ) → r ≡ RealTime → {sent : ℕ} → sent ≡ at m i SENT_REAL_TIME
     → with m i SENT_REAL_TIME (sent + bytes) ≡ counted m i r bytes

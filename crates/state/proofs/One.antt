@@ -1,6 +1,7 @@
 -- Each step's promise allows one table, or one choice: two that it allows of the same table are equal. The promises of `get`, `put`, those of a header's
 -- cell and of a length, `put_times`, `times_of`, `count_bytes`, `add_piece`, `tick` and `move_clock` are equations.
 -- Assumes nothing.
+use Rattle.std.specs.Prelude.{Option, Some, None}
 use Prim.Native.Nat.{ℕ, ◌≤◌, ◌<◌}
 use mathlib.Core.Path.{◌≡◌, refl, sym, subst, ap, ◌∙◌}
 use mathlib.Core.List.{List}
@@ -127,13 +128,13 @@ link_one tree m r s p q =
     (λ b. p.others k f room column a b ∙ sym (q.others k f room column a b))))
     (le_or_lt tree.count k))
 
-pub chosen_one : {m : List ℕ} {tree : Tree} {cs : List Call} → Told m tree cs → (tick : ℕ) (a b : Sender) → Chosen tree cs tick a → Chosen tree cs tick b → a ≡ b
-chosen_one {tree = tree} {cs = cs} told tick (Sender.Leaf j r) (Sender.Leaf k s) p q =
-    let same = choice_one tree cs tick j k r s p q in λ i. Sender.Leaf (same.0 i) (same.1 i)
-chosen_one {tree = tree} {cs = cs} told tick (Sender.Leaf j r) Sender.Nothing p q = never (choice_waits tree told.grown cs tick j r p) (q j)
-chosen_one {tree = tree} {cs = cs} told tick Sender.Nothing (Sender.Leaf k s) p q = never (choice_waits tree told.grown cs tick k s q) (p k)
-chosen_one told tick Sender.Nothing Sender.Nothing p q = refl
+pub chosen_one : {m : List ℕ} {tree : Tree} {cs : List Call} → Told m tree cs → (tick : ℕ) (a b : Option Sender) → Chosen tree cs tick a → Chosen tree cs tick b → a ≡ b
+chosen_one {tree = tree} {cs = cs} told tick (Some a) (Some b) p q =
+    let same = choice_one tree cs tick a.class b.class a.rule b.rule p q in λ i. Some (record { class = same.0 i; rule = same.1 i })
+chosen_one {tree = tree} {cs = cs} told tick (Some a) None p q = never (choice_waits tree told.grown cs tick a.class a.rule p) (q a.class)
+chosen_one {tree = tree} {cs = cs} told tick None (Some b) p q = never (choice_waits tree told.grown cs tick b.class b.rule q) (p b.class)
+chosen_one told tick None None p q = refl
 
-pub choose_one : (m : List ℕ) → SomeCalls (Told m) → (tick : ℕ) (a b : Sender) → EveryCalls (Told m) (λ tree cs. Chosen tree cs tick a)
+pub choose_one : (m : List ℕ) → SomeCalls (Told m) → (tick : ℕ) (a b : Option Sender) → EveryCalls (Told m) (λ tree cs. Chosen tree cs tick a)
     → EveryCalls (Told m) (λ tree cs. Chosen tree cs tick b) → a ≡ b
 choose_one m w tick a b f g = chosen_one w.holds tick a b (f w.tree w.calls w.holds) (g w.tree w.calls w.holds)

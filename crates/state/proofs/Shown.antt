@@ -1,5 +1,7 @@
 -- What the state's arrays tell of a history that they show: the clock and the checks 14 and 15 by it, its leaves, and the table as the choice reads it.
 -- Assumes nothing.
+use Rattle.std.specs.Prelude.{Ok, Err}
+use Rattle.state.specs.Kinds.{NextClock}
 use Prim.Native.Nat.{ℕ, ◌+◌, ◌≤◌, ◌<◌, ◌^◌}
 use native.Mathlib.Omega.{arith}
 use mathlib.Core.Path.{◌≡◌, refl, sym, ◌∙◌, ap}
@@ -23,8 +25,6 @@ use Rattle.rules.proofs.Tests.{is_false}
 use Rattle.rules.proofs.Trees.{leaf_class}
 use Rattle.rules.proofs.Active.{numbers}
 use Rattle.rules.proofs.Sent.{clock_most}
-use Rattle.state.specs.declared.ticks.NextClock.{NextClock}
-use Rattle.state.specs.declared.ticks.NextClock.TheVariants.{At, Refused}
 use Rattle.state.specs.Table.{at, header_at, CLASSES}
 use Rattle.state.specs.Columns.{CLOCK, STAMP, COUNT, NEXT_NUMBER, HEAD_NUMBER}
 use Rattle.state.specs.State.{Shows}
@@ -35,13 +35,13 @@ use Rattle.state.proofs.Choosing.{count_most}
 -- 14 and 15
 
 module _ (why : Refusal) (now : ℕ) (rest : Outcome) where
-  refused_first : (a b : Bool) → Refused why ≡ pick_clock a (Refused StampTooFar) (pick_clock b (Refused ClockFull) (At now))
+  refused_first : (a b : Bool) → Err why ≡ pick_clock a (Err StampTooFar) (pick_clock b (Err ClockFull) (Ok now))
       → cond a (refused 14) (cond b (refused 15) rest) ≡ refused (number_of why)
   refused_first true b e = let w : StampTooFar ≡ why = cc in ap (λ (x : Refusal). refused (number_of x)) w
   refused_first false true e = let w : ClockFull ≡ why = cc in ap (λ (x : Refusal). refused (number_of x)) w
   refused_first false false e = let z : ◌≡◌ {A = ℕ} 0 1 = cc in absurd (omega arith)
 
-at_last : (a b : Bool) (t now : ℕ) → At t ≡ pick_clock a (Refused StampTooFar) (pick_clock b (Refused ClockFull) (At now))
+at_last : (a b : Bool) (t now : ℕ) → Ok t ≡ pick_clock a (Err StampTooFar) (pick_clock b (Err ClockFull) (Ok now))
     → (t ≡ now) × ((a ≡ false) × (b ≡ false))
 at_last true b t now e = let z : ◌≡◌ {A = ℕ} 0 1 = cc in absurd (omega arith)
 at_last false true t now e = let z : ◌≡◌ {A = ℕ} 0 1 = cc in absurd (omega arith)
@@ -52,13 +52,13 @@ module _ (h : History) (stamp : ℕ) where
   ticked = tick_of (clock h.calls) (last_stamp h.first h.calls) stamp
 
   -- a call that the clock refuses, with whatever checks come after
-  pub tick_refused : (why : Refusal) (rest : List Check) → Refused why ≡ ticked
+  pub tick_refused : (why : Refusal) (rest : List Check) → Err why ≡ ticked
       → outcome (departure_checks h.calls (ticks h stamp) ++ rest) ≡ refused (number_of why)
   unfolding tick_of outcome
   tick_refused why rest e = refused_first why (next_clock h stamp) (outcome rest) (leb too_far (ticks h stamp)) (ltb last_tick (next_clock h stamp)) e
 
   -- a call that it does not refuse
-  pub tick_kept : (t : ℕ) → At t ≡ ticked → (t ≡ next_clock h stamp) × ((leb too_far (ticks h stamp) ≡ false) × (ltb last_tick (next_clock h stamp) ≡ false))
+  pub tick_kept : (t : ℕ) → Ok t ≡ ticked → (t ≡ next_clock h stamp) × ((leb too_far (ticks h stamp) ≡ false) × (ltb last_tick (next_clock h stamp) ≡ false))
   unfolding tick_of
   tick_kept t e = at_last (leb too_far (ticks h stamp)) (ltb last_tick (next_clock h stamp)) t (next_clock h stamp) e
 
@@ -107,13 +107,13 @@ module _ {m l : List ℕ} {h : History} (law : Lawful h) (s : Shows m l h) where
 
 module _ {m l : List ℕ} (h : History) (law : Lawful h) (shows : Shows m l h) (stamp : ℕ) {r : NextClock}
     (ticked : r ≡ tick_of (header_at m CLOCK) (header_at m STAMP) stamp) where
-  pub tick_passes : (now : ℕ) → r ≡ NextClock.At now → (outcome (departure_checks h.calls (ticks h stamp)) ≡ passed) × (now ≡ next_clock h stamp)
+  pub tick_passes : (now : ℕ) → r ≡ Ok now → (outcome (departure_checks h.calls (ticks h stamp)) ≡ passed) × (now ≡ next_clock h stamp)
   unfolding outcome
   tick_passes now e =
       let (isNow, (near, late)) = tick_kept h stamp now (sym e ∙ ticked ∙ tick_shown law shows stamp) in
       (checks_after h stamp [] near late, isNow)
 
-  pub tick_timely : (now : ℕ) → r ≡ NextClock.At now → Timely h.calls now
+  pub tick_timely : (now : ℕ) → r ≡ Ok now → Timely h.calls now
   tick_timely now e =
       let (isNow, (near, late)) = tick_kept h stamp now (sym e ∙ ticked ∙ tick_shown law shows stamp) in
       record {

@@ -1,6 +1,7 @@
 -- What the scheduler's inner steps make of the table: the small definitions that their promises cite.
 -- Assumes nothing.
-use Rattle.std.specs.Prelude.{ℕ, ◌+◌, ◌≤◌, ◌<◌, ◌^◌, ◌≡◌, Bool, true, false, List, ◌∷◌, length, leb, ltb, eqb}
+use Rattle.state.specs.Kinds.{NextClock}
+use Rattle.std.specs.Prelude.{ℕ, ◌+◌, ◌≤◌, ◌<◌, ◌^◌, ◌≡◌, Bool, true, false, List, ◌∷◌, length, leb, ltb, eqb, Some, None, Ok, Err, Option}
 use Rattle.curve.specs.Answers.{Least}
 use Rattle.curve.specs.Codec.{kind_curve}
 use Rattle.curve.specs.declared.Curve.{Curve}
@@ -14,7 +15,6 @@ use Rattle.tree.specs.Rules.{RightTree}
 use Rattle.rules.specs.declared.Rule.{Rule}
 use Rattle.rules.specs.declared.Rule.TheVariants.{RealTime, Fair}
 use Rattle.rules.specs.declared.Times.{Times}
-use Rattle.rules.specs.declared.Times.TheVariants.{Untimed, Timed}
 use Rattle.rules.specs.Limits.{last_tick, most_bytes_accepted, longest, too_far, weigh}
 use Rattle.rules.specs.Calls.{Call, came}
 use Rattle.rules.specs.Clock.{elapsed_ticks}
@@ -22,8 +22,6 @@ use Rattle.rules.specs.Queues.{waits}
 use Rattle.rules.specs.Leaves.{sent_real_time, DeadlineOf, EligibleOf}
 use Rattle.rules.specs.Choice.{has_curve}
 use Rattle.rules.specs.Lawful.{LawfulCalls, Allowed}
-use Rattle.state.specs.declared.ticks.NextClock.{NextClock}
-use Rattle.state.specs.declared.ticks.NextClock.TheVariants.{At, Refused}
 use Rattle.state.specs.Table.{at, with, CLASSES, COLUMNS, CELLS}
 use Rattle.state.specs.Columns.{KIND, FIRST, SECOND, THIRD, SENT_REAL_TIME, STEEP_START, STEEP_SENT, FLAT_START, FLAT_SENT, ELIGIBLE, DEADLINE, NEVER, times_from, fair_from}
 use Rattle.state.specs.State.{kept_for, has_times, ShowsTree}
@@ -35,9 +33,9 @@ pick_clock false a b = b
 -- the clock after a call, or its refusal: 14, then 15
 unfoldable pub tick_of : ℕ → ℕ → ℕ → NextClock
 tick_of clock last stamp =
-    pick_clock (leb too_far (elapsed_ticks stamp last)) (Refused StampTooFar)
-    (pick_clock (ltb last_tick (clock + elapsed_ticks stamp last)) (Refused ClockFull)
-    (At (clock + elapsed_ticks stamp last)))
+    pick_clock (leb too_far (elapsed_ticks stamp last)) (Err StampTooFar)
+    (pick_clock (ltb last_tick (clock + elapsed_ticks stamp last)) (Err ClockFull)
+    (Ok (clock + elapsed_ticks stamp last)))
 
 -- the curve that a class's columns say by their code
 abbrev pub curve_in : List ℕ → ℕ → Curve
@@ -126,12 +124,12 @@ counted m i RealTime bytes = with m i SENT_REAL_TIME (at m i SENT_REAL_TIME + by
 counted m i Fair bytes = m
 
 -- the times that a leaf's columns have
-abbrev pub pick_times : Bool → Times → Times → Times
+abbrev pub pick_times : Bool → Option Times → Option Times → Option Times
 pick_times true a b = a
 pick_times false a b = b
 
-unfoldable pub times_in : List ℕ → ℕ → Times
-times_in m i = pick_times (eqb (at m i KIND) 0) Untimed (Timed (at m i ELIGIBLE) (at m i DEADLINE))
+unfoldable pub times_in : List ℕ → ℕ → Option Times
+times_in m i = pick_times (eqb (at m i KIND) 0) None (Some (record { eligible = (at m i ELIGIBLE); deadline = (at m i DEADLINE) }))
 
 -- what it takes to work out the times of a head of that length
 pub record Timable (m : List ℕ) (i n : ℕ) : Type 0 where

@@ -1,6 +1,6 @@
 -- What the choice reads off the table: the small definitions that its inner promises cite.
 -- Assumes nothing.
-use Rattle.std.specs.Prelude.{ℕ, ◌+◌, ◌≤◌, ◌<◌, ◌≡◌, true, false, List, length}
+use Rattle.std.specs.Prelude.{ℕ, ◌+◌, ◌≤◌, ◌<◌, ◌≡◌, true, false, List, length, Option, Some, None}
 use Rattle.tree.specs.declared.Tree.{Tree}
 use Rattle.tree.specs.Trees.{deepest, is_leaf, depth}
 use Rattle.rules.specs.Calls.{Call}
@@ -8,7 +8,6 @@ use Rattle.rules.specs.Classes.{active}
 use Rattle.rules.specs.Fair.{virtual_time_of}
 use Rattle.rules.specs.Choice.{Choice, First, Contends, RealTimeRule, ActiveChild, NothingWaits}
 use Rattle.rules.specs.Lawful.{LawfulCalls, Grown}
-use Rattle.state.specs.declared.choice.LeafFound.{LeafFound}
 use Rattle.state.specs.declared.choice.Sender.{Sender}
 use Rattle.state.specs.Table.{at, header_at, CLASSES, COLUMNS, CELLS}
 use Rattle.state.specs.Columns.{COUNT}
@@ -26,9 +25,9 @@ pub record Told (m : List ℕ) (tree : Tree) (cs : List Call) : Type 0 where
   pub blank : (i f : ℕ) → tree.count ≤ i → i < CLASSES → 1 ≤ f → f < COLUMNS → at m i f ≡ 0
 
 -- the real-time rule's leaf, or nothing exactly where no leaf contends
-abbrev pub Soonest : Tree → List Call → ℕ → LeafFound → Type 0
-Soonest tree cs tick (LeafFound.At j) = RealTimeRule tree cs tick j
-Soonest tree cs tick LeafFound.Nothing = (k d : ℕ) → Contends tree cs tick k d → ⊥
+abbrev pub Soonest : Tree → List Call → ℕ → Option ℕ → Type 0
+Soonest tree cs tick (Some j) = RealTimeRule tree cs tick j
+Soonest tree cs tick None = (k d : ℕ) → Contends tree cs tick k d → ⊥
 
 -- an active class with children: the fair rule goes to one of them
 pub record Stepping (m : List ℕ) (tree : Tree) (cs : List Call) (i : ℕ) : Type 0 where
@@ -48,6 +47,6 @@ pub record Descending (m : List ℕ) (tree : Tree) (cs : List Call) (i steps : �
   pub enough : deepest ≤ depth tree i + steps
 
 -- what the rules choose, or nothing exactly where nothing waits
-abbrev pub Chosen : Tree → List Call → ℕ → Sender → Type 0
-Chosen tree cs tick (Sender.Leaf j r) = Choice tree cs tick j r
-Chosen tree cs tick Sender.Nothing = NothingWaits cs
+abbrev pub Chosen : Tree → List Call → ℕ → Option Sender → Type 0
+Chosen tree cs tick (Some sender) = Choice tree cs tick sender.class sender.rule
+Chosen tree cs tick None = NothingWaits cs

@@ -10,21 +10,16 @@ use crate::table::{
 };
 use rules::Rule;
 
-#[derive(Clone, Copy)]
-pub enum LeafFound {
-    At(usize),
-    Nothing,
-}
-
-#[derive(Clone, Copy)]
-pub enum Sender {
-    Leaf { class: usize, rule: Rule },
-    Nothing,
+// The leaf whose head leaves, and the rule by which it does.
+#[derive(Clone, Copy, PartialEq, Eq)]
+pub struct Sender {
+    pub class: usize,
+    pub rule: Rule,
 }
 
 // The real-time rule: of the leaves that are eligible now the one of smallest deadline, then of lowest
 // number.
-fn soonest(words: &Words, tick: u64) -> LeafFound
+fn soonest(words: &Words, tick: u64) -> Option<usize>
     requires { SomeCalls (Told words.now) × (tick ≤ last_tick) }
     ensures { EveryCalls (Told words.now) (λ tree cs. Soonest tree cs tick result) }
 {
@@ -40,10 +35,7 @@ fn soonest(words: &Words, tick: u64) -> LeafFound
             }
         }
     }
-    if least == LARGEST {
-        return LeafFound::Nothing;
-    }
-    LeafFound::At(best)
+    if least == LARGEST { None } else { Some(best) }
 }
 
 // The active child of smallest virtual time, then of lowest number.
@@ -72,34 +64,28 @@ fn descend(words: &Words, class: usize, depth: u32) -> usize
     requires { SomeCalls (λ tree cs. Descending words.now tree cs class depth) }
     ensures { EveryCalls (λ tree cs. Descending words.now tree cs class depth) (λ tree cs. GoesDown tree cs result class) }
 {
-    if depth == 0 {
-        return class;
-    }
-    if get(words, class, CHILD) == 0 {
+    if depth == 0 || get(words, class, CHILD) == 0 {
         return class;
     }
     descend(words, lightest(words, class), depth - 1)
 }
 
 // The leaf whose head leaves now, and the rule; or nothing where none waits.
-pub fn choose(words: &Words, tick: u64) -> Sender
+pub fn choose(words: &Words, tick: u64) -> Option<Sender>
     requires { SomeCalls (Told words.now) × (tick ≤ last_tick) }
     ensures { EveryCalls (Told words.now) (λ tree cs. Chosen tree cs tick result) }
 {
-    match soonest(words, tick) {
-        LeafFound::At(class) => Sender::Leaf {
+    if let Some(class) = soonest(words, tick) {
+        return Some(Sender {
             class,
             rule: Rule::RealTime,
-        },
-        LeafFound::Nothing => {
-            if get(words, 0, ACTIVE) == 0 {
-                Sender::Nothing
-            } else {
-                Sender::Leaf {
-                    class: descend(words, 0, tree::DEEPEST),
-                    rule: Rule::Fair,
-                }
-            }
-        }
+        });
     }
+    if get(words, 0, ACTIVE) == 0 {
+        return None;
+    }
+    Some(Sender {
+        class: descend(words, 0, tree::DEEPEST),
+        rule: Rule::Fair,
+    })
 }

@@ -12,7 +12,7 @@ use crate::table::{
     DEADLINE, ELIGIBLE, FIRST, FLAT_SENT, FLAT_START, KIND, SECOND, SENT_REAL_TIME, STEEP_SENT,
     STEEP_START, THIRD, Words, get, put,
 };
-use curve::codec::decode;
+use curve::codec::Code;
 use curve::{Curve, Kept, Piece};
 use rules::{Rule, Times};
 
@@ -21,11 +21,13 @@ fn curve_of(words: &Words, class: usize) -> Curve
     requires { (class < CLASSES) × NarrowCode words.now class }
     ensures { result ≡ curve_in words.now class }
 {
-    let kind = get(words, class, KIND) as u32;
-    let first = get(words, class, FIRST) as u32;
-    let second = get(words, class, SECOND) as u32;
-    let third = get(words, class, THIRD) as u32;
-    decode(kind, first, second, third)
+    let code = Code {
+        kind: get(words, class, KIND) as u32,
+        first: get(words, class, FIRST) as u32,
+        second: get(words, class, SECOND) as u32,
+        third: get(words, class, THIRD) as u32,
+    };
+    Curve::try_from(code).unwrap_or(Curve::None)
 }
 
 // The pieces kept of the leaf's history.
@@ -65,17 +67,17 @@ pub fn put_times(words: &mut Words, class: usize, eligible: u64, deadline: u64)
 }
 
 // The eligible time and the deadline of the leaf's head, where it has a curve.
-pub fn times_of(words: &Words, class: usize) -> Times
+pub fn times_of(words: &Words, class: usize) -> Option<Times>
     requires { class < CLASSES }
     ensures { result ≡ times_in words.now class }
 {
     if get(words, class, KIND) == 0 {
-        return Times::Untimed;
+        return None;
     }
-    Times::Timed {
+    Some(Times {
         eligible: get(words, class, ELIGIBLE),
         deadline: get(words, class, DEADLINE),
-    }
+    })
 }
 
 // The bytes sent by the real-time rule.

@@ -8,7 +8,7 @@ use crate::table::{
     CELLS, CHILD, FIRST, KIND, Lengths, NEVER, PARENT, PLACES, SECOND, SHARE, SIBLING, THIRD,
     Words, get, put,
 };
-use curve::codec::{Code, encode};
+use curve::codec::Code;
 use tree::{Class, Tree};
 
 pub fn clear_words(words: &mut Words)
@@ -41,8 +41,7 @@ fn plant_class(words: &mut Words, number: usize, class: Class)
     put(words, number, PARENT, class.parent as u64);
     put(words, number, SHARE, class.share as u64);
     put_times(words, number, NEVER, 0);
-    let curve = class.curve;
-    plant_code(words, number, encode(curve));
+    plant_code(words, number, Code::from(class.curve));
 }
 
 // The tree's classes.

@@ -10,39 +10,27 @@ ghost use Rattle.rules.specs.Clock.{elapsed_ticks};
 use crate::table::{CLOCK, STAMP, Words, header, put_header};
 use tree::Refusal;
 
-// The clock after a call with this stamp, or why the call is refused.
-#[derive(Clone, Copy)]
-pub enum NextClock {
-    At(u64),
-    Refused { why: Refusal },
-}
-
 // Refusal 14: "elapsed ticks are 2^31 or more".
 fn too_far(stamp: u32, last: u32) -> bool
     ensures { Exactly result (limits.too_far ≤ elapsed_ticks stamp last) }
 {
-    let elapsed = rules::elapsed(stamp, last);
-    rules::TOO_FAR <= elapsed
+    rules::TOO_FAR <= rules::elapsed(stamp, last)
 }
 
-// Refusal 14, then 15: "clock would pass 2^40".
-pub fn tick(words: &Words, stamp: u32) -> NextClock
+// The clock after a call with this stamp, or why the call is refused: refusal 14, then 15: "clock would pass 2^40".
+pub fn tick(words: &Words, stamp: u32) -> Result<u64, Refusal>
     requires { (header_at words.now col.CLOCK ≤ limits.last_tick) × (header_at words.now col.STAMP < 2 ^ 32) }
     ensures { result ≡ tick_of (header_at words.now col.CLOCK) (header_at words.now col.STAMP) stamp }
 {
     let last = header(words, STAMP) as u32;
     if too_far(stamp, last) {
-        return NextClock::Refused {
-            why: Refusal::StampTooFar,
-        };
+        return Err(Refusal::StampTooFar);
     }
     let now = header(words, CLOCK) + rules::elapsed(stamp, last) as u64;
     if rules::LAST_TICK < now {
-        return NextClock::Refused {
-            why: Refusal::ClockFull,
-        };
+        return Err(Refusal::ClockFull);
     }
-    NextClock::At(now)
+    Ok(now)
 }
 
 // The clock and the kept stamp after a call that was not refused.

@@ -1,5 +1,7 @@
 -- The call: its checks against those of the definition, and the sheet that it leaves.
 -- Assumes nothing.
+use Rattle.std.specs.Prelude.{Ok, Err}
+use Rattle.state.specs.Kinds.{NextClock}
 use Prim.Native.Nat.{ℕ, ◌*◌, ◌≤◌, ◌<◌}
 use mathlib.Core.Path.{◌≡◌, refl, sym, ◌∙◌, subst}
 use mathlib.Core.List.{List, [], ◌∷◌, ◌++◌}
@@ -14,7 +16,6 @@ use Rattle.rules.specs.Calls.{History}
 use Rattle.rules.specs.Lawful.{Lawful}
 use Rattle.rules.specs.Answers.{Check, passed, outcome, ticks, departure_checks}
 use Rattle.rules.proofs.Trees.{leaf_class}
-use Rattle.state.specs.declared.ticks.NextClock.{NextClock}
 use Rattle.state.specs.Table.{header_at, CLASSES}
 use Rattle.state.specs.Columns.{CLOCK, STAMP}
 use Rattle.state.specs.State.{Shows}
@@ -38,10 +39,10 @@ count_narrow {h} law = omega (arith, count_within h.tree.count (is_leaf h.tree),
 
 module _ {m l : List ℕ} (h : History) (law : Lawful h) (shows : Shows m l h) (stamp : ℕ) {r : NextClock}
     (ticked : r ≡ tick_of (header_at m CLOCK) (header_at m STAMP) stamp) (s : List ℕ) where
-  pub clock_refuses : (why : Refusal) → r ≡ NextClock.Refused why → WhyRight h stamp (Sheet.Refused why) s s
+  pub clock_refuses : (why : Refusal) → r ≡ Err why → WhyRight h stamp (Sheet.Refused why) s s
   clock_refuses why e = record { checked = tick_refused h stamp why _ (sym e ∙ ticked ∙ tick_shown law shows stamp); found = refl }
 
-  module _ (now : ℕ) (e : r ≡ NextClock.At now) where
+  module _ (now : ℕ) (e : r ≡ Ok now) where
     -- 14 and 15 are passed, so that 17 decides
     only_room : (rest : List Check) → outcome (departure_checks h.calls (ticks h stamp) ++ rest) ≡ outcome rest
     only_room rest =

@@ -1,5 +1,6 @@
 -- What the columns of a leaf in which a packet waits say of it, where the fair rule chose; and what the rules' choice says of any leaf.
 -- Assumes nothing.
+use Rattle.std.specs.Prelude.{Option, Some, None}
 use Prim.Native.Nat.{ℕ, ◌<◌}
 use mathlib.Core.Path.{◌≡◌, sym, ◌∙◌, subst}
 use mathlib.Core.Bool.{true, false}
@@ -55,7 +56,7 @@ module _ {m : List ℕ} {tree : Tree} {cs : List Call} {tick chosen i : ℕ} (a 
             leaves = common_leaves tree a.told.grown cs i chosen other class apart 0 p k common a.rule.goes_down (within_top tree a.told.grown i class);
           })
 
-module _ {m : List ℕ} {tree : Tree} {cs : List Call} {tick : ℕ} {sender : Sender} {i : ℕ} (a : Asked m tree cs tick sender i) where
+module _ {m : List ℕ} {tree : Tree} {cs : List Call} {tick : ℕ} {sender : Option Sender} {i : ℕ} (a : Asked m tree cs tick sender i) where
   asked_class : i < tree.count
   asked_class = leaf_class tree i a.leaf
 
@@ -70,10 +71,10 @@ module _ {m : List ℕ} {tree : Tree} {cs : List Call} {tick : ℕ} {sender : Se
   is_waiting some = sym (leaf_active tree a.told.grown cs i a.leaf) ∙ cell_active a.told i asked_class some
 
   -- what the rules chose
-  pub none_chosen : sender ≡ Sender.Nothing → NothingWaits cs
+  pub none_chosen : sender ≡ None → NothingWaits cs
   none_chosen e = subst (Chosen tree cs tick) e a.chosen
 
-  module _ (j : ℕ) (r : Rule) (e : sender ≡ Sender.Leaf j r) (waiting : waits cs i ≡ true) where
+  module _ (j : ℕ) (r : Rule) (e : sender ≡ Some (record { class = j; rule = r })) (waiting : waits cs i ≡ true) where
     chose : Choice tree cs tick j r
     chose = subst (Chosen tree cs tick) e a.chosen
 

@@ -1,6 +1,6 @@
 -- What the sheet's inner steps read off the table: the small definitions that their promises cite.
 -- Assumes nothing.
-use Rattle.std.specs.Prelude.{ℕ, ◌*◌, ◌≤◌, ◌<◌, ◌≡◌, true, List, length, get_or}
+use Rattle.std.specs.Prelude.{ℕ, ◌*◌, ◌≤◌, ◌<◌, ◌≡◌, true, List, length, get_or, Option}
 use Rattle.tree.specs.declared.Tree.{Tree}
 use Rattle.tree.specs.Trees.{is_leaf}
 use Rattle.rules.specs.Limits.{last_tick}
@@ -32,7 +32,7 @@ pub record AskedFair (m : List ℕ) (tree : Tree) (cs : List Call) (tick chosen 
   pub rule : FairRule tree cs tick chosen
 
 -- a leaf, where this is what the rules choose
-pub record Asked (m : List ℕ) (tree : Tree) (cs : List Call) (tick : ℕ) (sender : Sender) (i : ℕ) : Type 0 where
+pub record Asked (m : List ℕ) (tree : Tree) (cs : List Call) (tick : ℕ) (sender : Option Sender) (i : ℕ) : Type 0 where
   pub told : Told m tree cs
   pub leaf : is_leaf tree i ≡ true
   pub chosen : Chosen tree cs tick sender

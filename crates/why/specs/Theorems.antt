@@ -1,12 +1,11 @@
 -- What is proved of the reasons. Each statement stands here under a name; a comment names the law of proofs/ that proves it.
 -- Assumes nothing.
-use Rattle.std.specs.Prelude.{ℕ, ◌≡◌, true, List}
+use Rattle.std.specs.Prelude.{ℕ, ◌≡◌, true, List, Some, None, Ok}
 use Rattle.tree.specs.declared.Tree.{Tree}
 use Rattle.tree.specs.Trees.{is_leaf}
 use Rattle.rules.specs.declared.Rule.{Rule}
 use Rattle.rules.specs.declared.Rule.TheVariants.{RealTime, Fair}
 use Rattle.rules.specs.declared.Packet.{Packet}
-use Rattle.rules.specs.declared.Departure.TheVariants.{Leaves, NoneWaits}
 use Rattle.rules.specs.Calls.{Call, History}
 use Rattle.rules.specs.Choice.{FairRule}
 use Rattle.rules.specs.Lawful.{Grown, LawfulCalls, Lawful}
@@ -52,12 +51,12 @@ pub record ChosenDeparts (h : History) (stamp : ℕ) (p : Packet) : Type 0 where
   pub only : (i : ℕ) (r : Rule) → Holds h.tree h.calls (next_clock h stamp) i (chosen_by r) → (i ≡ p.class) × (r ≡ p.rule)
 
 abbrev pub ChosenIsSent : Type 0
-ChosenIsSent = (h : History) (stamp : ℕ) (p : Packet) (next : History) → Departs h stamp (Leaves p) next → ChosenDeparts h stamp p
+ChosenIsSent = (h : History) (stamp : ℕ) (p : Packet) (next : History) → Departs h stamp (Ok (Some p)) next → ChosenDeparts h stamp p
 
 -- where it answers "none waits" every leaf reads nothing waits: `none_reads_nothing`
 abbrev pub NoneReadsNothing : Type 0
 NoneReadsNothing =
-    (h : History) → Lawful h → (stamp : ℕ) (next : History) → Departs h stamp NoneWaits next → (i : ℕ) (r : Reason) → Holds h.tree h.calls (next_clock h stamp) i r
+    (h : History) → Lawful h → (stamp : ℕ) (next : History) → Departs h stamp (Ok None) next → (i : ℕ) (r : Reason) → Holds h.tree h.calls (next_clock h stamp) i r
     → r ≡ NothingWaits
 
 -- "passed over" names the last class common to the leaf's way up and the choice's, and the child that the choice takes there: `passed_at_last_common`

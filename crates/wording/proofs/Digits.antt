@@ -1,6 +1,6 @@
 -- The number that a word's digits make, as a walk over the word makes it.
 -- Assumes nothing.
-use Prim.Native.Nat.{ℕ, zero, suc, ◌+◌, ◌-◌, ◌*◌, ◌^◌, ◌≤◌, ◌<◌, min}
+use Prim.Native.Nat.{ℕ, ◌+◌, ◌-◌, ◌*◌, ◌^◌, ◌≤◌, ◌<◌, min}
 use native.Mathlib.Numerals.{add-one}
 use native.Mathlib.Omega.{arith}
 use mathlib.Core.Path.{◌≡◌, refl, ap}
@@ -9,8 +9,9 @@ use mathlib.Core.List.{List, [], ◌∷◌}
 use lib.Dec.{leb}
 use lib.ListN.{length, get_or, drop, drop_of_length-le}
 use lib.Seq.{drop-cons}
-use borrow.Author.Tests.{le-leb, lt-leb, le-ltb, leb-true, leb-false}
-use Rattle.wording.specs.declared.Operand.TheVariants.{NotANumber}
+use borrow.Author.Tests.{le-ltb, leb-true, leb-false}
+use Rattle.std.specs.Prelude.{Err}
+use Rattle.wording.specs.declared.NumberError.TheVariants.{NotANumber}
 use Rattle.wording.specs.Numbers.{only_if, narrowed, is_digit, number_from, number_of}
 
 -- all numbers past 32 bits are the same, whatever digits follow
@@ -28,34 +29,26 @@ number_capped n s = by (leb n (2 ^ 32)) refl
     by false e = passed_same n (min n (2 ^ 32)) s (omega (arith, leb-false n (2 ^ 32) e)) (omega (arith, leb-false n (2 ^ 32) e))
 
 -- a walk at i: a digit, or none
-pub number_on : (n : ℕ) (s : List ℕ) (i : ℕ) → i < length s → 48 ≤ get_or s i 0 → get_or s i 0 ≤ 57
+pub number_on : (n : ℕ) (s : List ℕ) (i : ℕ) → i < length s → is_digit (get_or s i 0) ≡ true
     → number_from n (drop i s) ≡ number_from (10 * n + (get_or s i 0 - 48)) (drop (i + 1) s)
 unfolding number_from
-number_on n s i h low high = rw (add-one, drop-cons s i 0 h, le-leb 48 (get_or s i 0) low, le-leb (get_or s i 0) 57 high)
+number_on n s i h digit = rw (add-one, drop-cons s i 0 h, digit)
 
-pub number_low : (n : ℕ) (s : List ℕ) (i : ℕ) → i < length s → get_or s i 0 < 48 → number_from n (drop i s) ≡ NotANumber
+pub number_other : (n : ℕ) (s : List ℕ) (i : ℕ) → i < length s → is_digit (get_or s i 0) ≡ false → number_from n (drop i s) ≡ Err NotANumber
 unfolding number_from
-number_low n s i h low = rw (drop-cons s i 0 h, lt-leb 48 (get_or s i 0) low)
-
-pub number_high : (n : ℕ) (s : List ℕ) (i : ℕ) → i < length s → 48 ≤ get_or s i 0 → 57 < get_or s i 0 → number_from n (drop i s) ≡ NotANumber
-unfolding number_from
-number_high n s i h low high = rw (drop-cons s i 0 h, le-leb 48 (get_or s i 0) low, lt-leb (get_or s i 0) 57 high)
+number_other n s i h other = rw (drop-cons s i 0 h, other)
 
 pub number_ends : (n : ℕ) (s : List ℕ) (i : ℕ) → length s ≤ i → number_from n (drop i s) ≡ narrowed n
 unfolding number_from
 number_ends n s i h = rw (drop_of_length-le s h)
 
 -- a word of some bytes is the number that its digits make after 0
-pub number_some : (s : List ℕ) → 0 < length s → number_of s ≡ number_from 0 s
+pub number_some : (s : List ℕ) → (length s ≡ 0 → ⊥) → number_of s ≡ number_from 0 s
 unfolding number_of
-number_some [] h = absurd (omega arith)
+number_some [] h = absurd (h refl)
 number_some (b ∷ s) h = refl
 
-pub number_none : (s : List ℕ) → length s ≡ 0 → number_of s ≡ NotANumber
+pub number_none : (s : List ℕ) → length s ≡ 0 → number_of s ≡ Err NotANumber
 unfolding number_of
 number_none [] h = refl
 number_none (b ∷ s) h = absurd (omega arith)
-
-pub nonzero : (n : ℕ) → (n ≡ 0 → ⊥) → 0 < n
-nonzero zero h = absurd (h refl)
-nonzero (suc n) h = omega arith

@@ -1,7 +1,6 @@
 pub mod Spans
 pub mod Sames
 pub mod Digits
-pub mod Alone
 pub mod One
 pub mod Decimals
 pub mod Plain

@@ -10,10 +10,9 @@ use lib.Dec.{eqb}
 use lib.ListN.{length}
 use lib.Seq.{take-length, take-append_seam, drop-append_seam}
 use borrow.Author.Tests.{ne_eqb, not-true}
-use Rattle.wording.specs.declared.Kind.TheVariants.{Dark, Text}
 use Rattle.wording.specs.Letters.{space, line_feed}
-use Rattle.wording.specs.Words.{is_blank, is_of, span, uncommented, begun, first, after}
-pub use Rattle.wording.specs.Words.{every, is_plain, Plain}
+use Rattle.wording.specs.Words.{is_blank, span, uncommented, begun, first, after}
+pub use Rattle.wording.specs.Words.{every, is_plain, is_dark, is_text, Plain}
 use Rattle.wording.specs.Decimal.{digit, decimal}
 use Rattle.wording.proofs.Decimals.{decimal_small, decimal_more, by_digits}
 
@@ -43,13 +42,6 @@ span_every meant [] t h = omega arith
 span_every meant (b ∷ s) t h =
     let (one, others) = both (meant b) (every meant s) h in
     rw one (omega (arith, span_every meant s t others))
-
--- a byte that words are made of, and one that starts no comment
-abbrev pub is_dark : ℕ → Bool
-is_dark = is_of Dark
-
-abbrev pub is_text : ℕ → Bool
-is_text = is_of Text
 
 -- every digit is
 digit_plain : (d : ℕ) → d < 10 → is_plain (digit d) ≡ true

@@ -31,7 +31,7 @@ number_next n d s h = rw (le-leb 48 (48 + d) (omega arith), le-leb (48 + d) 57 (
 pub decimal_reads : DecimalReads
 unfolding number_from
 decimal_reads n =
-    number_some (decimal n) (decimal_some n)
+    number_some (decimal n) (λ e. omega (arith, decimal_some n))
     ∙ sym (ap (number_from 0) (append-nil (decimal n)))
     ∙ reads number_from number_next n []
 

@@ -2,18 +2,17 @@
 -- Assumes nothing.
 use Rattle.std.specs.Prelude.{ℕ, suc, ◌≡◌, Bool, true, false, cond, not, ◌&&◌, ◌||◌, List, [], ◌∷◌, take, drop, eqb}
 use Rattle.wording.specs.Letters.{line_feed}
-use Rattle.wording.specs.declared.Kind.{Kind}
-use Rattle.wording.specs.declared.Kind.TheVariants.{Blank, Dark, Text}
 
 -- "white space is a space, a tab or a carriage return"
 abbrev pub is_blank : ℕ → Bool
 is_blank b = eqb b 32 || (eqb b 9 || eqb b 13)
 
--- a kind of byte: white space, what words are made of, and what is no '#'
-abbrev pub is_of : Kind → ℕ → Bool
-is_of Blank b = is_blank b
-is_of Dark b = not (is_blank b)
-is_of Text b = not (eqb b 35)
+-- what words are made of, and what is no '#'
+abbrev pub is_dark : ℕ → Bool
+is_dark b = not (is_blank b)
+
+abbrev pub is_text : ℕ → Bool
+is_text b = not (eqb b 35)
 
 -- "A file ends a line with a line feed": what is no end of a line
 abbrev pub is_inner : ℕ → Bool
@@ -38,18 +37,18 @@ span meant (b ∷ s) = cond (meant b) (suc (span meant s)) 0
 
 -- "`#` starts a comment, to the end of the line"
 unfoldable pub uncommented : List ℕ → List ℕ
-uncommented line = take (span (is_of Text) line) line
+uncommented line = take (span is_text line) line
 
 -- "white space may stand before the first word"
 unfoldable pub begun : List ℕ → List ℕ
-begun text = drop (span (is_of Blank) text) text
+begun text = drop (span is_blank text) text
 
 -- the first word, no bytes where there is none; and what stands after it
 unfoldable pub first : List ℕ → List ℕ
-first text = take (span (is_of Dark) (begun text)) (begun text)
+first text = take (span is_dark (begun text)) (begun text)
 
 unfoldable pub after : List ℕ → List ℕ
-after text = drop (span (is_of Dark) (begun text)) (begun text)
+after text = drop (span is_dark (begun text)) (begun text)
 
 -- whether two words are the same
 unfoldable pub same : List ℕ → List ℕ → Bool

@@ -3,65 +3,48 @@
 #![tactic(auto)]
 
 ghost use Rattle.std.specs.Prelude.{◌≡◌, ◌+◌, ◌≤◌, ◌^◌, min, length, drop};
-ghost use Rattle.wording.specs.Words.{is_blank, is_of, is_inner, span, uncommented, first, after, same};
+ghost use Rattle.wording.specs.Words.{is_blank, is_dark, is_inner, span, uncommented, begun, first, after, same};
 ghost use Rattle.wording.specs.Numbers.{number_of, narrowed, is_number, only_in};
 
-// A word as a number: one of 32 bits, one past them, or none.
-#[derive(Clone, Copy)]
-pub enum Operand {
-    Of(u32),
+// Why a word is no number of 32 bits: it is past them, or no number at all.
+#[derive(Clone, Copy, PartialEq, Eq)]
+pub enum NumberError {
     TooLarge,
     NotANumber,
 }
 
-// A kind of byte: white space, what words are made of, and what is no comment.
-#[derive(Clone, Copy)]
-enum Kind {
-    Blank,
-    Dark,
-    Text,
-}
-
 // Whether a word is a number, of whatever size.
-pub fn is_number(operand: Operand) -> bool
+pub fn is_number(operand: Result<u32, NumberError>) -> bool
     ensures { result ≡ is_number operand }
 {
-    match operand {
-        Operand::Of(n) => true,
-        Operand::TooLarge => true,
-        Operand::NotANumber => false,
-    }
+    operand != Err(NumberError::NotANumber)
 }
 
 // The number that a text is, as its only word.
-pub fn only(text: &[u8]) -> Operand
+#[tactic(auto, unfolding(crate::specs::Numbers::only_in))]
+pub fn only(text: &[u8]) -> Result<u32, NumberError>
     ensures { result ≡ only_in text.now }
 {
-    if word(behind(text)).len() != 0 {
-        return Operand::NotANumber;
+    if !word(behind(text)).is_empty() {
+        return Err(NumberError::NotANumber);
     }
     number(word(text))
 }
 
 // The number that a word is.
-pub fn number(word: &[u8]) -> Operand
+#[tactic(auto, using(crate::proofs::Digits::number_none, crate::proofs::Digits::number_some, crate::proofs::Digits::number_on, crate::proofs::Digits::number_other, crate::proofs::Digits::number_ends, crate::proofs::Digits::number_capped))]
+pub fn number(word: &[u8]) -> Result<u32, NumberError>
     ensures { result ≡ number_of word.now }
 {
-    if word.len() == 0 {
-        return Operand::NotANumber;
+    if word.is_empty() {
+        return Err(NumberError::NotANumber);
     }
     let mut value: u64 = 0;
-    let mut i = 0;
-    while i < word.len() {
-        let b = word[i];
-        if b < 48 {
-            return Operand::NotANumber;
+    for b in word {
+        if !b.is_ascii_digit() {
+            return Err(NumberError::NotANumber);
         }
-        if 57 < b {
-            return Operand::NotANumber;
-        }
-        value = capped(10 * value + wide(b - 48));
-        i += 1;
+        value = capped(10 * value + u64::from(*b - b'0'));
     }
     narrow(value)
 }
@@ -70,110 +53,71 @@ pub fn number(word: &[u8]) -> Operand
 pub fn capped(value: u64) -> u64
     ensures { result ≡ min value (2 ^ 32) }
 {
-    if 4294967296 < value {
-        return 4294967296;
-    }
-    value
+    value.min(4294967296)
 }
 
-// A number as an operand: one of 32 bits, or too large.
-pub fn narrow(value: u64) -> Operand
+// A number as one of 32 bits, or too large.
+pub fn narrow(value: u64) -> Result<u32, NumberError>
     ensures { result ≡ narrowed value }
 {
-    if 4294967295 < value {
-        return Operand::TooLarge;
-    }
-    Operand::Of(value as u32)
-}
-
-// A byte as a number of 64 bits.
-pub fn wide(b: u8) -> u64
-    ensures { result ≡ b }
-{
-    b as u64
+    u32::try_from(value).map_err(|_| NumberError::TooLarge)
 }
 
 // The line before its comment.
 pub fn uncomment(line: &[u8]) -> &[u8]
     ensures { result.now ≡ uncommented line.now }
 {
-    let n = run(line, Kind::Text);
+    let n = line.iter().take_while(|b| **b != b'#').count();
     &line[..n]
 }
 
 // The first word, or nothing.
+#[tactic(auto, unfolding(crate::specs::Words::first))]
 pub fn word(text: &[u8]) -> &[u8]
     ensures { result.now ≡ first text.now }
 {
-    let from = run(text, Kind::Blank);
-    let begun = &text[from..];
-    let n = run(begun, Kind::Dark);
-    &begun[..n]
+    let begun = begun(text);
+    &begun[..word_length(begun)]
 }
 
 // What stands after the first word.
+#[tactic(auto, using(crate::proofs::Spans::part_on), unfolding(crate::specs::Words::after))]
 pub fn behind(text: &[u8]) -> &[u8]
     ensures { result.now ≡ after text.now }
 {
-    let from = run(text, Kind::Blank);
-    let begun = &text[from..];
-    let n = run(begun, Kind::Dark);
-    &begun[n..]
+    let begun = begun(text);
+    &begun[word_length(begun)..]
 }
 
-// How many bytes of that kind stand in front.
-fn run(text: &[u8], kind: Kind) -> usize
-    ensures counted { result ≡ span (is_of kind) text.now }
-    ensures within { result ≤ length text.now }
+// The text from its first word on.
+fn begun(text: &[u8]) -> &[u8]
+    ensures { result.now ≡ begun text.now }
 {
-    let mut i = 0;
-    while i < text.len() {
-        if !belongs(text[i], kind) {
-            return i;
-        }
-        i += 1;
-    }
-    i
+    let n = text.iter().take_while(|b| is_blank(**b)).count();
+    &text[n..]
 }
 
-fn belongs(b: u8, kind: Kind) -> bool
-    ensures { result ≡ is_of kind b }
+// The length of the word that a text begins with.
+fn word_length(begun: &[u8]) -> usize
+    ensures counted { result ≡ span is_dark begun.now }
+    ensures within { result ≤ length begun.now }
 {
-    match kind {
-        Kind::Blank => is_blank(b),
-        Kind::Dark => !is_blank(b),
-        Kind::Text => b != b'#',
-    }
+    begun.iter().take_while(|b| !is_blank(**b)).count()
 }
 
 // Whether a byte is white space.
 pub fn is_blank(b: u8) -> bool
     ensures { result ≡ is_blank b }
 {
-    if b == b' ' {
-        return true;
-    }
-    if b == b'\t' {
-        return true;
-    }
-    b == b'\r'
+    matches!(b, b' ' | b'\t' | b'\r')
 }
 
 // Whether a word is that one.
+#[tactic(auto, using(crate::proofs::Sames::same_bytes))]
 pub fn is(word: &[u8], name: &[u8]) -> bool
     ensures { result ≡ same word.now name.now }
 {
-    let mut i = 0;
-    while i < word.len() {
-        if name.len() <= i {
-            return false;
-        }
-        if word[i] != name[i] {
-            return false;
-        }
-        i += 1;
-    }
-    name.len() <= i
+    word == name
 }
 
 // Where the line ends that starts at a place.
@@ -182,12 +126,5 @@ pub fn line_end(text: &[u8], at: usize) -> usize
     ensures counted { result ≡ at + span is_inner (drop at text.now) }
     ensures within { result ≤ length text.now }
 {
-    let mut i = at;
-    while i < text.len() {
-        if text[i] == b'\n' {
-            return i;
-        }
-        i += 1;
-    }
-    i
+    at + text[at..].iter().take_while(|b| **b != b'\n').count()
 }

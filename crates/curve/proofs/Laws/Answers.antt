@@ -1,12 +1,12 @@
 -- What a test's answer tells, that a least number is one number, and the least number of two things.
 -- Assumes nothing.
 use Prim.Native.Nat.{ℕ, ◌≤◌, max}
-use mathlib.Core.Path.{◌≡◌, refl, subst}
-use mathlib.Core.Bool.{Bool, true, false, not}
+use mathlib.Core.Path.{◌≡◌, refl, sym, subst}
+use mathlib.Core.Bool.{Bool, true, false}
 use native.Mathlib.Nat.{le_antisymm}
 use native.Mathlib.Omega.{arith}
 use lib.Dec.{leb}
-use borrow.Author.Tests.{leb-true, leb-false}
+use borrow.Author.Tests.{le-leb, leb-true, leb-false}
 use Rattle.curve.specs.Answers.{Least, Exactly}
 
 -- the answer was true, or false
@@ -15,15 +15,6 @@ told_yes b {P} h e = subst (λ x. Exactly x P) e h
 
 pub told_no : (b : Bool) {P : Type 0} → Exactly b P → b ≡ false → P → ⊥
 told_no b {P} h e = subst (λ x. Exactly x P) e h
-
--- the same where the code tests the negated answer
-pub untold_no : (b : Bool) {P : Type 0} → Exactly b P → not b ≡ true → P → ⊥
-untold_no true h e = let z : ◌≡◌ {A = ℕ} 0 1 = cc in absurd (omega arith)
-untold_no false h e = h
-
-pub untold_yes : (b : Bool) {P : Type 0} → Exactly b P → not b ≡ false → P
-untold_yes true h e = h
-untold_yes false h e = let z : ◌≡◌ {A = ℕ} 0 1 = cc in absurd (omega arith)
 
 -- an answer that says exactly whether P holds is one answer
 pub exactly_one : (a b : Bool) (P : Type 0) → Exactly a P → Exactly b P → a ≡ b
@@ -36,6 +27,10 @@ exactly_one false false P h k = refl
 pub exactly_iff : (b : Bool) {P Q : Type 0} → (P → Q) → (Q → P) → Exactly b P → Exactly b Q
 exactly_iff true f g h = f h
 exactly_iff false f g h = λ q. h (g q)
+
+-- a comparison that holds answers what holds
+pub tells_yes : (a b : ℕ) {P : Type 0} → a ≤ b → P → Exactly (leb a b) P
+tells_yes a b {P} h p = subst (λ t. Exactly t P) (sym (le-leb a b h)) p
 
 -- a comparison's answer says exactly whether it holds
 pub leb_exactly : (a : ℕ) {b x : ℕ} → b ≡ x → Exactly (leb a b) (a ≤ x)

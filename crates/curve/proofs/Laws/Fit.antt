@@ -2,6 +2,7 @@
 -- straight; past the last bend the last slopes decide.
 -- Assumes nothing.
 use Prim.Native.Nat.{ℕ, zero, suc, ◌+◌, ◌-◌, ◌*◌, ◌≤◌, ◌<◌, min, max}
+use mathlib.Core.Bool.{Bool, true, false}
 use mathlib.Core.Path.{◌≡◌, refl, ap}
 use mathlib.Core.List.{List, [], ◌∷◌}
 use mathlib.Core.Logic.{◌⊎◌, inl, inr, ⊎_elim}
@@ -9,10 +10,14 @@ use native.Mathlib.Nat.{mul-le-mul_left, mul-le-mul_right, le_trans, le_refl, le
 use native.Mathlib.Omega.{arith}
 use native.Mathlib.Numerals.{add-one}
 use lib.ListN.{length, get_or}
+use Rattle.std.specs.Bool.{MatchBool}
+use Rattle.std.specs.List.{AllWithin, HoldsAt}
+use Rattle.curve.specs.Answers.{Exactly}
 use Rattle.curve.specs.Curves.{whole, amount, in_parts, last_slope, bend_of}
 use Rattle.curve.specs.Fit.{sum_of, total, CurvesFit, slopes}
 use Rattle.curve.specs.declared.Curve.{Curve}
 use Rattle.curve.specs.declared.Curve.TheVariants.{None, Straight, FrontLoaded, Delayed}
+use Rattle.curve.proofs.Laws.Answers.{exactly_iff}
 use Rattle.curve.proofs.Laws.Order.{le_or_lt}
 use Rattle.curve.proofs.Laws.Amount.{amount_zero}
 use Rattle.curve.proofs.Laws.Sum.{sum_zero}
@@ -193,3 +198,19 @@ pub every_bend : (P : ℕ → Type 0) (Ss : List Curve) → ((k : ℕ) → k < l
 unfolding EveryBend
 every_bend P [] h = tt
 every_bend P (S ∷ Ss) h = (h 0 (omega arith), every_bend P Ss (λ k l. h (suc k) (omega arith)))
+
+-- what a walk over the curves tells of a fact of each bend: that it holds at every one, or a curve at whose bend it does not
+abbrev pub ToldBends : (ℕ → Type 0) → List Curve → Bool → Type 0
+ToldBends P Ss all =
+    MatchBool all (AllWithin (λ S. P (bend_of S)) Ss 0 (length Ss)) ((k : ℕ) × (k < length Ss) × HoldsAt (λ S. P (bend_of S) → ⊥) Ss k)
+
+-- where the curves fit at every bend, the last slopes tell whether they fit
+pub told_all : (Ss : List Curve) (all last : Bool) → ToldBends (λ b. total Ss b ≤ in_parts b) Ss all → all ≡ true → Exactly last (slopes Ss ≤ whole)
+    → Exactly last (CurvesFit Ss)
+told_all Ss true last h e = exactly_iff last (bends_enough Ss (every_bend _ Ss (λ k l. h k None (omega arith) l))) (slopes_needed Ss)
+told_all Ss false last h e = cc
+
+-- and where they do not at one, they do not fit
+pub told_one : (Ss : List Curve) (all : Bool) → ToldBends (λ b. total Ss b ≤ in_parts b) Ss all → all ≡ false → Exactly all (CurvesFit Ss)
+told_one Ss true h e = cc
+told_one Ss false h e = λ fit. h.2 None (fit_at Ss fit _)

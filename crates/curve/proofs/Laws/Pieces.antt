@@ -1,13 +1,11 @@
 -- One piece: the earliest tick at which it stands at an amount, and which of two pieces is lower.
 -- Assumes nothing.
 use Prim.Native.Nat.{ℕ, ◌+◌, ◌-◌, ◌*◌, ◌≤◌, ◌<◌, max}
-use mathlib.Core.Path.{◌≡◌, refl, subst, ap}
-use mathlib.Core.Bool.{Bool, true, false}
+use mathlib.Core.Path.{◌≡◌, refl}
 use native.Mathlib.Nat.{le_trans}
 use native.Mathlib.Omega.{arith}
-use lib.Dec.{eqb}
-use borrow.Author.Tests.{le-leb, lt-leb, eqb-true, eqb-false}
-use Rattle.curve.specs.Answers.{Least, Exactly}
+use borrow.Author.Tests.{le-leb, lt-leb}
+use Rattle.curve.specs.Answers.{Least}
 use Rattle.curve.specs.Curves.{latest_bend, amount, in_parts, Rising}
 use Rattle.curve.specs.Pieces.{standing}
 use Rattle.curve.specs.Keeping.{Reaches, lower_of, Stands, BothStand, early}
@@ -15,7 +13,7 @@ use Rattle.curve.specs.declared.Curve.{Curve}
 use Rattle.curve.specs.declared.Curve.TheVariants.{Straight, FrontLoaded, Delayed, None}
 use Rattle.curve.specs.declared.Piece.{Piece}
 use Rattle.curve.specs.declared.Kept.{Kept}
-use Rattle.curve.proofs.Laws.Answers.{least_iff, least_both}
+use Rattle.curve.proofs.Laws.Answers.{least_both}
 use Rattle.curve.proofs.Laws.Amount.{amount_mono, rising_reaches}
 
 -- an earliest tick is at most 2^20 past the parts
@@ -50,22 +48,10 @@ arrival_least S p bytes {e} h =
       least = λ u s. omega (arith, s.begun, h.least (u - p.start) (omega (arith, s.high)));
     }
 
--- both stand so at the later of their ticks; where they are the same piece, at its tick
+-- both stand so at the later of their ticks
 pub both_least : (S : Curve) (k : Kept) (bytes : ℕ) {a b : ℕ} → Least (Stands S k.steep bytes) a → Least (Stands S k.flat bytes) b → Least (BothStand S k bytes) (max a b)
 both_least S k bytes =
     least_both (stands_on S k.steep bytes) (stands_on S k.flat bytes) (λ t s f. record { steep = s; flat = f }) (λ t r. r.steep) (λ t r. r.flat)
-
-pub one_least : (S : Curve) (k : Kept) (bytes : ℕ) {a : ℕ} → k.steep ≡ k.flat → Least (Stands S k.steep bytes) a → Least (BothStand S k bytes) a
-one_least S k bytes e =
-    least_iff (λ t s. record { steep = s; flat = subst (λ (p : Piece). Stands S p bytes t) e s }) (λ t r. r.steep)
-
--- two pieces that start together are one piece just where as many bytes were sent before
-pub one_exactly : (p q : Piece) → p.start ≡ q.start → Exactly (eqb p.sent q.sent) (p ≡ q)
-one_exactly p q e = by (eqb p.sent q.sent) refl
-  where
-    by : (t : Bool) → eqb p.sent q.sent ≡ t → Exactly t (p ≡ q)
-    by true f = let sent = eqb-true p.sent q.sent f in λ i. record { start = e i; sent = sent i }
-    by false f = λ h. eqb-false p.sent q.sent f (ap (λ (x : Piece). x.sent) h)
 
 -- the code's comparison of two pieces is the definition's
 pub lower_new : (m : ℕ) (old new : Piece) → in_parts (new.sent - old.sent) ≤ m * (new.start - old.start) → new ≡ lower_of m old new
@@ -83,7 +69,3 @@ early_rising (Straight m) r = r
 early_rising (FrontLoaded m₁ d m₂) r = r
 early_rising (Delayed d m) r = r.rate
 early_rising None r = elim r [ ]
-
--- and it is another curve
-pub delayed_not_early : (d m : ℕ) → early (Delayed d m) ≡ Delayed d m → ⊥
-delayed_not_early d m e = let z : ◌≡◌ {A = ℕ} 0 1 = cc in absurd (omega arith)

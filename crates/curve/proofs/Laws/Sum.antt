@@ -1,6 +1,6 @@
 -- Sums over a list of curves.
 -- Assumes nothing.
-use Prim.Native.Nat.{ℕ, zero, suc, ◌+◌, ◌-◌, ◌*◌, ◌≤◌, ◌<◌}
+use Prim.Native.Nat.{ℕ, zero, suc, ◌+◌, ◌*◌, ◌≤◌, ◌<◌}
 use mathlib.Core.Path.{◌≡◌, refl}
 use mathlib.Core.List.{List, [], ◌∷◌}
 use native.Mathlib.Nat.{zero-mul}
@@ -65,7 +65,7 @@ module _ (f : Curve → ℕ) (Ss : List Curve) (all : ℕ) where
   unfolding sum_of
   walk_start = record { place = omega arith; made = omega arith }
 
-  pub walk_on : {left i : ℕ} → Walk f Ss all left i → i < length Ss → f (get_or Ss i None) ≤ left → Walk f Ss all (left - f (get_or Ss i None)) (i + 1)
+  pub walk_on : {left rest i : ℕ} → Walk f Ss all left i → i < length Ss → rest + f (get_or Ss i None) ≡ left → Walk f Ss all rest (i + 1)
   walk_on {i = i} w l h = record { place = omega arith; made = omega (arith, w.made, sum_take_more f i Ss l) }
 
   pub walk_short : {left i : ℕ} → Walk f Ss all left i → i < length Ss → left < f (get_or Ss i None) → sum_of f Ss ≤ all → ⊥

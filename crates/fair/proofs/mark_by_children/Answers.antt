@@ -8,13 +8,13 @@ overflow_add-result c =
     record {
       fits =
           met_sum c.args.words.now c.requires.it c.args.parent c.args.class c.requires.holds
-          c.spread_of-s.result (c.spread_of-s.ensures c.requires.it c.requires.holds) c.if-s.true;
+          c.spread_of-spread.result (c.spread_of-spread.ensures c.requires.it c.requires.holds) c.if-spread.true;
     }
 
-pub returns-then-s : goal.returns-then-s
-returns-then-s c = λ tree family.
-    met_some c.args.words.now tree c.args.parent c.args.class family c.spread_of-s.result (c.spread_of-s.ensures tree family) c.if-s.true
+pub returns-then-spread : goal.returns-then-spread
+returns-then-spread c = λ tree family.
+    met_some c.args.words.now tree c.args.parent c.args.class family c.spread_of-spread.result (c.spread_of-spread.ensures tree family) c.if-spread.true
 
-pub returns : goal.returns
-returns c = λ tree family.
-    met_none c.args.words.now tree c.args.parent c.args.class family c.spread_of-s.result (c.spread_of-s.ensures tree family) c.if-s.false
+pub returns-else-spread : goal.returns-else-spread
+returns-else-spread c = λ tree family.
+    met_none c.args.words.now tree c.args.parent c.args.class family c.spread_of-spread.result (c.spread_of-spread.ensures tree family) c.if-spread.false

@@ -14,33 +14,33 @@ loop-child-init c = λ tree family.
 
 pub is_other-other-requires : goal.is_other-other-requires
 is_other-other-requires c =
-    walk_narrow c.args.words.now c.args.parent c.args.class c.loop-child.s c.loop-child.child c.requires c.loop-child.invariant c.loop-child-test.true
+    walk_narrow c.args.words.now c.args.parent c.args.class c.loop-child.spread c.loop-child.child c.requires c.loop-child.invariant c.loop-child-test.true
 
 pub get-requires : goal.get-requires
 get-requires c = (
-  walk_narrow c.args.words.now c.args.parent c.args.class c.loop-child.s c.loop-child.child c.requires c.loop-child.invariant c.loop-child-test.true,
+  walk_narrow c.args.words.now c.args.parent c.args.class c.loop-child.spread c.loop-child.child c.requires c.loop-child.invariant c.loop-child-test.true,
   omega arith,
 )
 
 pub get-child-requires-in-loop-child : goal.get-child-requires-in-loop-child
 get-child-requires-in-loop-child c = (
-  walk_narrow c.args.words.now c.args.parent c.args.class c.loop-child.s c.loop-child.child c.requires c.loop-child.invariant c.loop-child-test.true,
+  walk_narrow c.args.words.now c.args.parent c.args.class c.loop-child.spread c.loop-child.child c.requires c.loop-child.invariant c.loop-child-test.true,
   omega arith,
 )
 
 pub loop-child-smaller : goal.loop-child-smaller
 loop-child-smaller c =
-    walk_falls c.args.words.now c.args.parent c.args.class c.loop-child.s c.loop-child.child c.requires c.loop-child.invariant c.loop-child-test.true
+    walk_falls c.args.words.now c.args.parent c.args.class c.loop-child.spread c.loop-child.child c.requires c.loop-child.invariant c.loop-child-test.true
     c.get-child-in-loop-child.result c.get-child-in-loop-child.ensures
 
 pub loop-child-preserved : goal.loop-child-preserved
 loop-child-preserved c = λ tree family.
-    gathered_more c.args.words.now tree c.args.parent c.args.class family c.loop-child.s c.loop-child.child c.get-child-in-loop-child.result c.loop-child-test.true
-    (c.loop-child.invariant tree family) c.get-child-in-loop-child.ensures c.spread_with-s.result
-    (c.spread_with-s.ensures
-    ∙ ap₂ (λ (v : ℕ) (o : Bool). spread_with c.loop-child.s v o) c.get.ensures c.is_other-other.ensures)
+    gathered_more c.args.words.now tree c.args.parent c.args.class family c.loop-child.spread c.loop-child.child c.get-child-in-loop-child.result c.loop-child-test.true
+    (c.loop-child.invariant tree family) c.get-child-in-loop-child.ensures c.with-spread.result
+    (c.with-spread.ensures
+    ∙ ap₂ (λ (v : ℕ) (o : Bool). spread_with c.loop-child.spread v o) c.get.ensures c.is_other-other.ensures)
 
 pub returns : goal.returns
 returns c = λ tree family.
-    gathered_all c.args.words.now tree c.args.parent c.args.class family c.loop-child.s c.loop-child.child c.loop-child-test.false
+    gathered_all c.args.words.now tree c.args.parent c.args.class family c.loop-child.spread c.loop-child.child c.loop-child-test.false
     (c.loop-child.invariant tree family)

@@ -5,7 +5,8 @@ ghost use Rattle.file.specs.Steps.{Opened, Lying, AllPlaced, word_from, class_fr
 
 use super::entries::{Entry, Reader};
 use crate::format::body_bytes;
-use curve::codec::{KINDS, decode};
+use curve::Curve;
+use curve::codec::Code;
 use tree::{Class, Tree};
 
 impl<'a> Reader<'a> {
@@ -27,17 +28,19 @@ impl<'a> Reader<'a> {
         requires { Lying self.now.file.now entry.offset entry.bytes }
         ensures { result ≡ class_from self.now.order self.now.file.now entry.offset entry.bytes }
     {
-        let kind = self.body_word(entry, 2);
-        if KINDS <= kind || entry.bytes != body_bytes(kind) {
-            return tree::no_class();
-        }
-        let first = self.body_word(entry, 3);
-        let second = self.body_word(entry, 4);
-        let third = self.body_word(entry, 5);
-        Class {
-            parent: self.body_word(entry, 0),
-            share: self.body_word(entry, 1),
-            curve: decode(kind, first, second, third),
+        let code = Code {
+            kind: self.body_word(entry, 2),
+            first: self.body_word(entry, 3),
+            second: self.body_word(entry, 4),
+            third: self.body_word(entry, 5),
+        };
+        match Curve::try_from(code) {
+            Ok(curve) if entry.bytes == body_bytes(code.kind) => Class {
+                parent: self.body_word(entry, 0),
+                share: self.body_word(entry, 1),
+                curve,
+            },
+            _ => tree::no_class(),
         }
     }
 }

@@ -1,27 +1,48 @@
 -- `judge::judge_part` meets its contract: what is left to judge decides, from the history that the arrays show.
 -- Assumes nothing.
+use Prim.Native.Nat.{ℕ, ◌+◌, ◌*◌, ◌/◌}
+use mathlib.Core.Path.{◌≡◌, subst}
 use native.Mathlib.Omega.{arith}
+use lib.ListN.{length}
+use Rattle.judge.specs.declared.Judgement.TheVariants.{Malformed}
+use Rattle.judge.specs.Promises.{PartRight}
 use Rattle.judge.proofs.Replaying.{not_holds}
-use Rattle.judge.proofs.Judging.{onward_next, onward_wrong, onward_short, onward_ended}
+use Rattle.judge.proofs.Judging.{Onward, onward_first, onward_next, onward_wrong, onward_short, onward_ended}
 use Rattle.judge.proofs.judge_part.Goals as goal
+
+pub loop-record-init : goal.loop-record-init
+loop-record-init c = (c.requires, λ h law shows. onward_first law shows)
 
 pub returns-in_default : goal.returns-in_default
 returns-in_default c =
-    let loop = c.loop-at in
-    let finds = rw c.record_at.ensures at c.replay-finding.ensures.right in record { right = λ h law shows. rw c.name.ensures (onward_wrong (loop.invariant.3 h law shows) (omega arith) finds (not_holds c.replay-finding.result c.in_default.not-Holds)); reached = c.replay-finding.ensures.reached }
-
-pub loop-at-preserved : goal.loop-at-preserved
-loop-at-preserved c =
-    let loop = c.loop-at in
     let finds = rw c.record_at.ensures at c.replay-finding.ensures.right in
-    (c.replay-finding.ensures.reached, omega arith, omega arith, λ h law shows. onward_next (loop.invariant.3 h law shows) (omega arith) finds c.in-Holds.is)
+    record {
+      right = λ h law shows.
+          rw c.name.ensures
+          (onward_wrong (c.loop-record.invariant.1 h law shows) (omega arith) finds (not_holds c.replay-finding.result c.in_default.not-Holds));
+      reached = c.replay-finding.ensures.reached;
+    }
 
-pub returns-then-at-log : goal.returns-then-at-log
-returns-then-at-log c =
-    let loop = c.loop-at in
-    record { right = λ h law shows. onward_short (loop.invariant.3 h law shows) (omega arith) (omega arith); reached = loop.invariant.0 }
+pub loop-record-preserved : goal.loop-record-preserved
+loop-record-preserved c =
+    let finds = rw c.record_at.ensures at c.replay-finding.ensures.right in
+    let next : 4 * c.loop-record.record + 4 ≡ 4 * (c.loop-record.record + 1) = omega arith in (
+      c.replay-finding.ensures.reached,
+      λ h law shows.
+          subst (λ (at : ℕ). Onward h c.args.log.now (c.loop-record.record + 1) at c.replay-finding.new.words c.replay-finding.new.lengths) next
+          (onward_next (c.loop-record.invariant.1 h law shows) (omega arith) finds c.in-Holds.is),
+    )
+
+pub returns-then-records-log : goal.returns-then-records-log
+returns-then-records-log c =
+    let all : c.loop-record.record ≡ length c.args.log.now / 4 = omega arith in
+    record {
+      right = λ h law shows.
+          subst (λ (k : ℕ). PartRight h c.args.log.now (Malformed k) c.loop-record.words c.loop-record.lengths) all
+          (onward_short (c.loop-record.invariant.1 h law shows) (omega arith) (omega arith));
+      reached = c.loop-record.invariant.0;
+    }
 
 pub returns : goal.returns
 returns c =
-    let loop = c.loop-at in
-    record { right = λ h law shows. onward_ended (loop.invariant.3 h law shows) (omega arith); reached = loop.invariant.0 }
+    record { right = λ h law shows. onward_ended (c.loop-record.invariant.1 h law shows) (omega arith); reached = c.loop-record.invariant.0 }

@@ -1,45 +1,30 @@
--- `records::record_of` meets its contract: each test is one of the definition's.
+-- `records::record_of` meets its contract: each arm is one of the definition's.
 -- Assumes nothing.
 use mathlib.Core.Path.{refl}
 use borrow.Author.Tests.{eq-eqb, ne_eqb}
 use Rattle.records.specs.Records.{record_of}
 use Rattle.records.proofs.record_of.Goals as goal
 
-pub returns-then-kind-eq-ARRIVAL : goal.returns-then-kind-eq-ARRIVAL
+pub returns-in-1-default-default : goal.returns-in-1-default-default
 unfolding record_of
-returns-then-kind-eq-ARRIVAL c = rw (eq-eqb _ _ c.if-kind-eq-ARRIVAL.true) refl
+returns-in-1-default-default c = rw (eq-eqb _ _ c.in-1-default-default.is-0) refl
 
-pub returns-then-kind-eq-DEPARTURE : goal.returns-then-kind-eq-DEPARTURE
+pub returns-in-2-default-default : goal.returns-in-2-default-default
 unfolding record_of
-returns-then-kind-eq-DEPARTURE c = rw (ne_eqb _ _ c.if-kind-eq-ARRIVAL.false, eq-eqb _ _ c.if-kind-eq-DEPARTURE.true) refl
+returns-in-2-default-default c = rw c.in-2-default-default.is-0 refl
 
-pub returns-then-kind-ne-FOUND_EMPTY : goal.returns-then-kind-ne-FOUND_EMPTY
+pub returns-in-3-eq0-eq0 : goal.returns-in-3-eq0-eq0
 unfolding record_of
-returns-then-kind-ne-FOUND_EMPTY c = rw (ne_eqb _ _ c.if-kind-eq-ARRIVAL.false, ne_eqb _ _ c.if-kind-eq-DEPARTURE.false, ne_eqb _ _ c.if-kind-ne-FOUND_EMPTY.true) refl
+returns-in-3-eq0-eq0 c = rw (c.in-3-eq0-eq0.is-0, c.in-3-eq0-eq0.is-1, c.in-3-eq0-eq0.is-2) refl
 
-pub returns-then-class-ne0 : goal.returns-then-class-ne0
+pub returns-in_default : goal.returns-in_default
 unfolding record_of
-returns-then-class-ne0 c =
-    rw (ne_eqb _ _ c.if-kind-eq-ARRIVAL.false, ne_eqb _ _ c.if-kind-eq-DEPARTURE.false, eq-eqb _ _ c.if-kind-ne-FOUND_EMPTY.false, ne_eqb _ _ c.if-class-ne0.true) refl
+returns-in_default c = rw (c.in_default.is-0, c.in_default.is-1, ne_eqb _ _ c.in_default.is-2.1) refl
 
-pub returns-then-length-ne0 : goal.returns-then-length-ne0
+pub returns-in_default-2 : goal.returns-in_default-2
 unfolding record_of
-returns-then-length-ne0 c =
-    rw (
-      ne_eqb _ _ c.if-kind-eq-ARRIVAL.false,
-      ne_eqb _ _ c.if-kind-eq-DEPARTURE.false,
-      eq-eqb _ _ c.if-kind-ne-FOUND_EMPTY.false,
-      eq-eqb _ _ c.if-class-ne0.false,
-      ne_eqb _ _ c.if-length-ne0.true,
-    ) refl
+returns-in_default-2 c = rw (c.in_default.is-0, ne_eqb _ _ c.in_default.is-1.1) refl
 
-pub returns : goal.returns
+pub returns-in_default-3 : goal.returns-in_default-3
 unfolding record_of
-returns c =
-    rw (
-      ne_eqb _ _ c.if-kind-eq-ARRIVAL.false,
-      ne_eqb _ _ c.if-kind-eq-DEPARTURE.false,
-      eq-eqb _ _ c.if-kind-ne-FOUND_EMPTY.false,
-      eq-eqb _ _ c.if-class-ne0.false,
-      eq-eqb _ _ c.if-length-ne0.false,
-    ) refl
+returns-in_default-3 c = let other = c.in_default.is-0 in rw (ne_eqb _ _ other.0.0.1, ne_eqb _ _ other.0.1, ne_eqb _ _ other.1) refl

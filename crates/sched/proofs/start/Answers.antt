@@ -1,57 +1,36 @@
 -- `sched::start` meets its contract: cleared arrays, the stamp, and for a right tree its count, its classes and their links show the history of no calls.
 -- Assumes nothing.
-use mathlib.Core.Path.{subst}
-use Rattle.tree.specs.Rules.{RightTree, Judged}
+use mathlib.Core.Path.{◌≡◌}
+use borrow.Author.Rules.{rules}
+use Rattle.std.specs.Prelude.{Err}
 use Rattle.tree.proofs.Verdicts.{judged_right, right_judged}
-use Rattle.state.specs.Planting.{Headed}
 use Rattle.state.proofs.Fresh.{stamped, counted, headed_only, planted_linkable, fresh_shows, fresh_none}
 use Rattle.sched.proofs.Starting.{started_both}
 use Rattle.sched.proofs.start.Goals as goal
-use Rattle.sched.proofs.start.Goals.{After-put_header, In-Right}
-
--- after the stamp is stored
-headed : (c : After-put_header) → Headed c.put_header.new.words c.args.stamp 0
-headed c = stamped c.clear_words.ensures c.put_header.ensures
-
--- where the tree is right
-rightly : (c : In-Right) → RightTree c.args.tree
-rightly c =
-    let checked = c in
-    judged_right _ (subst (Judged _) c.in-Right.is checked.check.ensures)
 
 pub plant-requires : goal.plant-requires
-plant-requires c =
-    let told = c in
-    (headed_only (counted (headed told.before.before.before.before.before.before) c.put_header-in-Right.ensures), (rightly told.before.before.before.before).shape.count.below)
+plant-requires c = (headed_only (counted (stamped c.clear_words.ensures c.put_header.ensures) c.put_header-2.ensures), (judged_right _ c.in_ok-check.ensures).shape.count.below)
 
 pub link-requires : goal.link-requires
-link-requires c = planted_linkable (rightly c.before.before.before.before.before.before) c.plant.ensures
+link-requires c = planted_linkable (judged_right _ c.in_ok-check.ensures) c.plant.ensures
 
 -- clauses: right reached
-pub returns-in-Right : goal.returns-in-Right
-returns-in-Right c =
-    let planted = c in
-    let counting = planted in
-    let told = counting in
-    let stamping = told in
-    let begun = stamping in
-    let right = rightly told.before.before.before.before.before.before.before in
+pub returns : goal.returns
+returns c =
+    let right = judged_right _ c.in_ok-check.ensures in
     let shows =
-    fresh_shows right.shape.count.below (counted (headed stamping.before.before.before.before.before.before.before.before.before) counting.put_header-in-Right.ensures) planted.plant.ensures c.link.ensures
-    begun.ranges.stamp.fits stamping.clear_lengths.ensures
+    fresh_shows right.shape.count.below (counted (stamped c.clear_words.ensures c.put_header.ensures) c.put_header-2.ensures) c.plant.ensures c.link.ensures
+    c.ranges.stamp.fits c.clear_lengths.ensures
     in
-    let both = started_both begun.ranges.stamp.fits (right_judged _ right) shows in
+    let both = started_both c.ranges.stamp.fits (right_judged _ right) shows in
     record { right = both.0; reached = both.1 }
 
 -- clauses: right reached
-pub returns-in-Refused : goal.returns-in-Refused
-returns-in-Refused c =
-    let known = c in
-    let checked = known in
-    let stamping = checked in
-    let begun = stamping in
+pub returns-in_err-check : goal.returns-in_err-check
+returns-in_err-check c =
+    let said : c.from_residual.result ≡ Err c.in_err-check.field-0.0 = search rules in
     let both =
-    started_both begun.ranges.stamp.fits (subst (Judged c.args.tree) known.in-Refused.is checked.check.ensures)
-    (fresh_none begun.ranges.stamp.fits stamping.clear_lengths.ensures (headed stamping.before.before))
+    started_both c.ranges.stamp.fits c.in_err-check.ensures
+    (fresh_none c.ranges.stamp.fits c.clear_lengths.ensures (stamped c.clear_words.ensures c.put_header.ensures))
     in
-    record { right = both.0; reached = both.1 }
+    rw said (record { right = both.0; reached = both.1 })

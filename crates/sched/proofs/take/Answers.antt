@@ -155,8 +155,8 @@ settle-requires c =
     let p = (entry (counts done.before)).requires in
     record { tree = p.history.tree; calls = p.history.calls; holds = record { it = p.holds.it; holds = settling done.before p.history p.holds.it p.lawful p.shows p.holds.holds } }
 
-pub overflow_cast-leaf : goal.overflow_cast-leaf
-overflow_cast-leaf c = omega (arith, class (entry (counts c.before.before)))
+pub overflow_cast-result : goal.overflow_cast-result
+overflow_cast-result c = omega (arith, class (entry (counts c.before.before)))
 
 pub returns : goal.returns
 returns c = λ h law shows t allowed.

@@ -1,6 +1,7 @@
 -- `why::fill` meets its contract: the lines of the leaves among the classes passed are in place, and the next one goes behind them. The measure is how
 -- many classes are left.
 -- Assumes nothing.
+use Rattle.std.specs.Prelude.{Option}
 use Prim.Native.Nat.{ℕ, ◌+◌, ◌*◌, ◌≤◌, ◌<◌}
 use mathlib.Core.Path.{◌≡◌, sym, ◌∙◌, subst}
 use mathlib.Core.Bool.{true}
@@ -42,7 +43,7 @@ module _ {m : List ℕ} {tree : Tree} {cs : List Call} {tick : ℕ} {s : List �
   room : numbers * line_number tree i + numbers ≤ length s
   room = omega (arith, f.room, number_past tree tree.count i below leaf)
 
-  asked : {sender : Sender} → Chosen tree cs tick sender → Asked m tree cs tick sender i
+  asked : {sender : Option Sender} → Chosen tree cs tick sender → Asked m tree cs tick sender i
   asked chosen = record { told = f.told; leaf = leaf; chosen = chosen }
 
 pub loop-i-init : goal.loop-i-init

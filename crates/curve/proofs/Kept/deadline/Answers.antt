@@ -4,4 +4,4 @@ use Rattle.curve.proofs.Laws.Pieces.{both_least}
 use Rattle.curve.proofs.Kept.deadline.Goals as goal
 
 pub returns : goal.returns
-returns c = rw c.later.ensures (both_least _ _ _ c.arrival-steep.ensures c.arrival.ensures)
+returns c = rw c.max.ensures (both_least _ _ _ c.arrival-steep.ensures c.arrival.ensures)

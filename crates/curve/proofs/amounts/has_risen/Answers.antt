@@ -2,12 +2,14 @@
 -- Assumes nothing.
 use mathlib.Core.Path.{sym}
 use native.Mathlib.Omega.{arith}
-use Rattle.curve.proofs.Laws.Answers.{leb_exactly}
+use Rattle.curve.proofs.Laws.Answers.{leb_exactly, tells_yes}
 use Rattle.curve.proofs.Laws.Amount.{line_halves}
 use Rattle.curve.proofs.amounts.has_risen.Goals as goal
 
-pub returns-then-high-ge33554432 : goal.returns-then-high-ge33554432
-returns-then-high-ge33554432 c = omega (arith, line_halves c.args.rate c.args.ticks)
+pub returns-then-high : goal.returns-then-high
+returns-then-high c =
+    let high = rw c.from-rate.ensures at c.if-high.true in
+    tells_yes _ _ c.if-high.true (omega (arith, high, line_halves c.args.rate c.args.ticks))
 
-pub returns : goal.returns
-returns c = leb_exactly c.args.parts (sym (line_halves c.args.rate c.args.ticks))
+pub returns-else-high : goal.returns-else-high
+returns-else-high c = leb_exactly c.args.parts (rw c.from-rate.ensures (sym (line_halves c.args.rate c.args.ticks)))

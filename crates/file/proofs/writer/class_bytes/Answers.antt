@@ -12,6 +12,6 @@ pub returns : goal.returns
 unfolding curve_bytes
 returns c =
     c.body_bytes.ensures
-    ∙ ap (λ (k : Code). body_bytes k.kind) c.encode.ensures
+    ∙ ap (λ (k : Code). body_bytes k.kind) c.from-code.ensures
     ∙ ap body_bytes (code_kind c.class_at.result.curve)
     ∙ ap (λ (k : Class). curve_bytes k.curve) c.class_at.ensures

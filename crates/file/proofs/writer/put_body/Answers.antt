@@ -16,12 +16,12 @@ pub slice_bounds-words-end : goal.slice_bounds-words-end
 slice_bounds-words-end c = omega (arith, body_most c.args.class.curve)
 
 pub slice_bounds-put_words-end : goal.slice_bounds-put_words-end
-slice_bounds-put_words-end c = sym (length-take-le _ (code_words c.args.class c.encode-code.result) (omega (arith, body_most c.args.class.curve)))
+slice_bounds-put_words-end c = sym (length-take-le _ (code_words c.args.class c.from-code.result) (omega (arith, body_most c.args.class.curve)))
 
 pub returns : goal.returns
 returns c =
     let class = c.args.class in
     let body = c.args.body.now in
     c.put_words.ensures
-    ∙ ap (λ (ws : List ℕ). sets body 0 (bytes_of Big ws)) (words_room class c.encode-code.result _ c.encode-code.ensures (omega (arith, body_length class)))
+    ∙ ap (λ (ws : List ℕ). sets body 0 (bytes_of Big ws)) (words_room class c.from-code.result _ c.from-code.ensures (omega (arith, body_length class)))
     ∙ sets_all body (bytes_of Big (body_words class)) (omega (arith, length_bytes_of Big (body_words class), body_length class))

@@ -1,15 +1,24 @@
--- `print::put::text` meets its contract: the loop's invariant: the bytes of the word before `i` stand at their places.
--- The measure is what is left of the word.
+-- `print::put::text` meets its contract: the part of the buffer that is lent holds the word when it comes back.
 -- Assumes nothing.
+use Prim.Native.Nat.{◌+◌, ◌-◌}
+use mathlib.Core.List.{List}
+use mathlib.Core.Path.{◌≡◌, refl, ap, ◌∙◌}
 use native.Mathlib.Omega.{arith}
-use lib.ListN.{length-set}
-use Rattle.print.proofs.Stores.{store_next}
+use lib.ListN.{length}
+use lib.Seq.{sets, length-sets}
+use Rattle.print.proofs.Stores.{ends_within, sets_part}
 use Rattle.print.proofs.put.text.Goals as goal
 
-pub loop-i-preserved : goal.loop-i-preserved
-loop-i-preserved c =
-    let start = c.args in (
-      omega arith,
-      simp length-set c.loop-i.invariant.1,
-      store_next start.word.now start.out.now c.loop-i.out start.at c.loop-i.i (omega arith) c.loop-i.invariant.2,
-    )
+pub returns : goal.returns
+returns c =
+    let out = c.args.out.now in
+    let word = c.args.word.now in
+    let at = c.args.at in
+    let long : length word ≡ at + length word - at = omega arith in
+    let holds = sets_part out at (at + length word - at) word long (omega arith) in
+    rw c.copy_from_slice.ensures.after
+    (record {
+      holds = holds;
+      ends = refl;
+      within = ends_within (at + length word) _ (omega (arith, ap length holds, length-sets out at word));
+    })

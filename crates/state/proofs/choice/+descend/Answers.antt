@@ -6,17 +6,19 @@ use Rattle.rules.specs.Choice.{reached, down}
 use Rattle.state.proofs.Choosing.{count_most}
 use Rattle.state.proofs.ChoosingDown.{deep_leaf, childless, steps_down, descends_on}
 use Rattle.state.proofs.choice.+descend.Goals as goal
+use Rattle.state.proofs.choice.+descend.Goals.{then-depth-eq0-via-then-depth-eq0, then-depth-eq0-via-else-depth-eq0+then-get-eq0}
 
 pub returns-then-depth-eq0 : goal.returns-then-depth-eq0
-returns-then-depth-eq0 t c = λ tree cs d. reached (deep_leaf d c.if-depth-eq0.true)
+returns-then-depth-eq0 t c = λ tree cs d.
+    elim c.then-depth-eq0.branch [
+      | then-depth-eq0-via-then-depth-eq0 w ↦ reached (deep_leaf d w.if-depth-eq0.true)
+      | then-depth-eq0-via-else-depth-eq0+then-get-eq0 w ↦ reached (childless d (sym w.get.ensures ∙ w.if-get-eq0.true))
+    ]
 
 pub get-requires : goal.get-requires
 get-requires t c =
     let d = c.requires.holds in
     (omega (arith, d.class, count_most c.requires.tree d.told.grown), omega arith)
-
-pub returns-then-get-eq0 : goal.returns-then-get-eq0
-returns-then-get-eq0 t c = λ tree cs d. reached (childless d (sym c.get.ensures ∙ c.if-get-eq0.true))
 
 pub lightest-requires : goal.lightest-requires
 lightest-requires t c =

@@ -12,9 +12,9 @@ descend-requires c =
 pub returns-then-get-eq0 : goal.returns-then-get-eq0
 returns-then-get-eq0 c = λ tree cs told. root_passive told (sym c.get.ensures ∙ c.if-get-eq0.true)
 
-pub returns-else-get-eq0 : goal.returns-else-get-eq0
-returns-else-get-eq0 c = λ tree cs told.
+pub returns : goal.returns
+returns c = λ tree cs told.
     record {
-      none = rw c.in-Nothing.is at (c.soonest.ensures tree cs told);
+      none = c.in_default.ensures tree cs told;
       goes_down = c.descend.ensures tree cs (root_descends told (λ e. c.if-get-eq0.false (c.get.ensures ∙ e)));
     }

@@ -26,8 +26,8 @@ returns-then-least c = λ tree cs told.
     let head = done.loop-i in
     soonest_none start.args.words.now tree cs told start.args.tick start.requires.1 head.i head.least head.best (all done.before told) head.invariant.2 c.if-least.true
 
-pub returns : goal.returns
-returns c = λ tree cs told.
+pub returns-else-least : goal.returns-else-least
+returns-else-least c = λ tree cs told.
     let done = c in
     let start = done in
     let head = done.loop-i in

@@ -1,4 +1,4 @@
--- `state::planting::plant_class` meets its contract: parent, share and times, then the code that `encode` gives.
+-- `state::planting::plant_class` meets its contract: parent, share and times, then the code of the curve.
 -- Assumes nothing.
 use Rattle.state.proofs.Starting.{class_stored}
 use Rattle.state.proofs.planting.plant_class.Goals as goal
@@ -9,4 +9,4 @@ returns c =
     let timed = encoded in
     let second = timed in
     let first = second in
-    class_stored _ _ _ first.put.ensures second.put-2.ensures timed.put_times.ensures encoded.encode.ensures c.plant_code.ensures
+    class_stored _ _ _ first.put.ensures second.put-2.ensures timed.put_times.ensures encoded.from.ensures c.plant_code.ensures

@@ -1,5 +1,6 @@
 -- `state::ticks::tick` meets its contract: the tests are the definition's, in its order.
 -- Assumes nothing.
+use Rattle.std.specs.Prelude.{Ok, Err}
 use Prim.Native.Nat.{ℕ, ◌+◌, ◌≤◌, ◌<◌}
 use mathlib.Core.Path.{◌≡◌, refl, ap, ◌∙◌}
 use native.Mathlib.Omega.{arith}
@@ -8,7 +9,6 @@ use Rattle.curve.proofs.Laws.Answers.{told_yes, told_no}
 use Rattle.tree.specs.declared.Refusal.TheVariants.{StampTooFar, ClockFull}
 use Rattle.rules.specs.Limits.{last_tick, too_far}
 use Rattle.rules.specs.Clock.{elapsed_ticks}
-use Rattle.state.specs.declared.ticks.NextClock.TheVariants.{At, Refused}
 use Rattle.state.specs.Steps.{tick_of}
 use Rattle.state.proofs.ticks.tick.Goals as goal
 use Rattle.state.proofs.ticks.tick.Goals.{Else-too_far}
@@ -18,21 +18,21 @@ module _ (clock last stamp read : ℕ) (same : read ≡ last) where
   ticks_are : elapsed_ticks stamp read ≡ elapsed_ticks stamp last
   ticks_are = ap (elapsed_ticks stamp) same
 
-  far : too_far ≤ elapsed_ticks stamp read → Refused StampTooFar ≡ tick_of clock last stamp
+  far : too_far ≤ elapsed_ticks stamp read → Err StampTooFar ≡ tick_of clock last stamp
   unfolding tick_of
   far h = rw (le-leb too_far (elapsed_ticks stamp last) (omega (arith, ticks_are))) refl
 
   module _ (near : too_far ≤ elapsed_ticks stamp read → ⊥) (now elapsed : ℕ) (k : now ≡ clock) (e : elapsed ≡ elapsed_ticks stamp read) where
-    full : last_tick < now + elapsed → Refused ClockFull ≡ tick_of clock last stamp
+    full : last_tick < now + elapsed → Err ClockFull ≡ tick_of clock last stamp
     unfolding tick_of
     full l =
         rw (lt-leb too_far (elapsed_ticks stamp last) (omega (arith, ticks_are)), lt-ltb last_tick (clock + elapsed_ticks stamp last) (omega (arith, ticks_are))) refl
 
-    kept : now + elapsed ≤ last_tick → At (now + elapsed) ≡ tick_of clock last stamp
+    kept : now + elapsed ≤ last_tick → Ok (now + elapsed) ≡ tick_of clock last stamp
     unfolding tick_of
     kept l =
         rw (lt-leb too_far (elapsed_ticks stamp last) (omega (arith, ticks_are)), le-ltb last_tick (clock + elapsed_ticks stamp last) (omega (arith, ticks_are)))
-        (λ i. At (k i + (e ∙ ticks_are) i))
+        (λ i. Ok (k i + (e ∙ ticks_are) i))
 
 -- fewer than 2^31 ticks have elapsed
 near-told : (c : Else-too_far) → too_far ≤ elapsed_ticks c.args.stamp c.header-last.result → ⊥
