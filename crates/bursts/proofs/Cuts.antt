@@ -26,7 +26,7 @@ pub longer : (kept : List ℕ) (seen : Seen) (burst : List ℕ) (told : Taken) (
 longer kept seen burst told new file e o h = subst (λ (b : Bool). Holds new told.seen.count (cond b file (file ++ burst))) e (o.holds file h)
 
 comes_read : (bursts : List (List ℕ)) (told : Taken) (kept : List ℕ) (seen : Seen) (file : List ℕ) → seen.ended ≡ false → Holds kept seen.count file
-    → Comes bursts told kept seen → Read (file ++ together bursts) told.answer told.tree
+    → Comes bursts told kept seen → Read (file ++ together bursts) told.answer
 comes_read [] told kept seen file e h end = rw (append-nil file) (end.answers file h)
 comes_read (burst ∷ bursts) told kept seen file e h next =
     rw (sym (append_assoc file burst (together bursts)))
@@ -34,18 +34,16 @@ comes_read (burst ∷ bursts) told kept seen file e h next =
     (still_open kept seen burst next.told next.new e next.offered)
     (longer kept seen burst next.told next.new file e next.offered h) next.rest)
 
-came_read : (bursts : List (List ℕ)) (told : Taken) → Came bursts told → Read (together bursts) told.answer told.tree
+came_read : (bursts : List (List ℕ)) (told : Taken) → Came bursts told → Read (together bursts) told.answer
 came_read bursts told came = comes_read bursts told came.kept came.seen [] came.begun.ended (begun_holds came.seen came.kept came.begun) came.comes
 
 pub cut_reads : CutReads
 cut_reads bursts told r came reads =
-    let same = read_same (together bursts) _ _ _ _ (came_read bursts told came) (record { verdict = r.verdict; told = refl; reads = reads }) in
-    record { verdict = same.0; tree = same.1 }
+    record { answer = read_same (together bursts) _ _ (came_read bursts told came) (record { reading = r; told = refl; reads = reads }) }
 
 pub cuts_agree : CutsAgree
 cuts_agree one other a b same p q =
-    let both = read_same (together one) _ _ _ _ (came_read one a p) (subst⁻¹ (λ (f : List ℕ). Read f b.answer b.tree) same (came_read other b q)) in
-    record { answer = both.0; tree = both.1 }
+    record { answer = read_same (together one) _ _ (came_read one a p) (subst⁻¹ (λ (f : List ℕ). Read f b.answer) same (came_read other b q)) }
 
 -- the end, told again, is told of the same
 again : (kept : List ℕ) (seen : Seen) (told : Taken) → Ended kept seen told → Ended kept told.seen told

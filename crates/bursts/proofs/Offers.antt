@@ -5,10 +5,9 @@ use mathlib.Core.Path.{◌≡◌, refl, ◌∙◌, sym}
 use mathlib.Core.Bool.{true, false}
 use mathlib.Core.List.{List}
 use lib.ListN.{length}
-use Rattle.tree.specs.Trees.{empty_tree}
+use Rattle.std.specs.Prelude.{None}
 use Rattle.file.specs.Fronts.{most_file_bytes, stopped}
 use Rattle.bursts.specs.declared.Seen.{Seen}
-use Rattle.bursts.specs.declared.Answered.TheVariants.{NothingYet}
 use Rattle.bursts.specs.declared.Taken.{Taken}
 use Rattle.bursts.specs.Bursts.{kept_with, Offered, ended, Ended}
 use Rattle.bursts.proofs.Held.{holds_next}
@@ -29,11 +28,11 @@ module _ (kept : List ℕ) (seen : Seen) (burst : List ℕ) (told : Taken) where
       }
 
   pub offered_early : (new : List ℕ) → length kept ≡ most_file_bytes → seen.ended ≡ false → new ≡ kept_with kept seen.count burst
-      → told.seen ≡ record { count = stopped (seen.count + length burst); ended = false } → told.answer ≡ NothingYet → told.tree ≡ empty_tree
+      → told.seen ≡ record { count = stopped (seen.count + length burst); ended = false } → told.answer ≡ None
       → Offered kept seen burst told new
-  offered_early new room e keeps notes answer none = record {
+  offered_early new room e keeps notes answer = record {
     keeps = rw e keeps;
     notes = rw e notes;
     holds = λ file h. rw (e, keeps, notes) (holds_next kept seen.count file room h burst);
-    answers = λ file h. rw e (record { told = answer; none = none });
+    answers = λ file h. rw e (record { told = answer });
   }

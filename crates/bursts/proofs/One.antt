@@ -9,16 +9,13 @@ use native.Mathlib.Omega.{arith}
 use lib.ListN.{length, take}
 use lib.Seq.{take_all, length-take-le}
 use Rattle.curve.proofs.Laws.Order.{le_or_lt}
-use Rattle.tree.specs.declared.Tree.{Tree}
-use Rattle.file.specs.declared.Reading.{Reading}
+use Rattle.std.specs.Prelude.{Some}
 use Rattle.file.specs.Fronts.{most_file_bytes}
 use Rattle.file.proofs.ReadLaws.Fronts.{front_some}
 use Rattle.file.proofs.ReadOne.{read_one}
 use Rattle.bursts.specs.declared.Seen.{Seen}
-use Rattle.bursts.specs.declared.Answered.{Answered}
-use Rattle.bursts.specs.declared.Answered.TheVariants.{Reads}
 use Rattle.bursts.specs.declared.Taken.{Taken}
-use Rattle.bursts.specs.Bursts.{Begun, Read, Answers, Offered, Ended}
+use Rattle.bursts.specs.Bursts.{Answered, Begun, Read, Answers, Offered, Ended}
 use Rattle.bursts.specs.Theorems.{HoldsSome, AlwaysHolds}
 
 -- whatever stands in the memory, it holds a file: the kept bytes, as many as were counted, or one of which they are the front
@@ -48,23 +45,16 @@ holds_some kept count room = ⊎_elim many few (le_or_lt most_file_bytes count)
           };
         }
 
--- one answer and one tree
-abbrev Same : Answered → Answered → Tree → Tree → Type 0
-Same a b t u = (a ≡ b) × (t ≡ u)
+-- one answer
+pub read_same : (file : List ℕ) (a b : Answered) → Read file a → Read file b → a ≡ b
+read_same file a b p q = p.told ∙ (ap Some (read_one file p.reading q.reading p.reads q.reads) ∙ sym q.told)
 
-pub read_same : (file : List ℕ) (a b : Answered) (t u : Tree) → Read file a t → Read file b u → Same a b t u
-read_same file a b t u p q =
-    let r : Reading = record { verdict = p.verdict; tree = t } in
-    let s : Reading = record { verdict = q.verdict; tree = u } in
-    let one : r ≡ s = read_one file r s p.reads q.reads in
-    (p.told ∙ (ap (λ (x : Reading). Reads x.verdict) one ∙ sym q.told), ap (λ (x : Reading). x.tree) one)
+answers_same : (ended : Bool) (file : List ℕ) (a b : Answered) → Answers ended file a → Answers ended file b → a ≡ b
+answers_same true file a b p q = read_same file a b p q
+answers_same false file a b p q = p.told ∙ sym q.told
 
-answers_same : (ended : Bool) (file : List ℕ) (a b : Answered) (t u : Tree) → Answers ended file a t → Answers ended file b u → Same a b t u
-answers_same true file a b t u p q = read_same file a b t u p q
-answers_same false file a b t u p q = (p.told ∙ sym q.told, p.none ∙ sym q.none)
-
-told_same : (a b : Taken) → a.seen ≡ b.seen → Same a.answer b.answer a.tree b.tree → a ≡ b
-told_same a b seen same = λ i. record { seen = seen i; answer = same.0 i; tree = same.1 i }
+told_same : (a b : Taken) → a.seen ≡ b.seen → a.answer ≡ b.answer → a ≡ b
+told_same a b seen answer = λ i. record { seen = seen i; answer = answer i }
 
 pub begun_one : (seen seen' : Seen) (kept kept' : List ℕ) → Begun seen kept → Begun seen' kept' → (seen ≡ seen') × (kept ≡ kept')
 begun_one seen seen' kept kept' p q =
@@ -76,10 +66,10 @@ module _ (kept : List ℕ) (seen : Seen) (room : length kept ≡ most_file_bytes
   pub offered_one : (burst : List ℕ) (told told' : Taken) (new new' : List ℕ) → Offered kept seen burst told new → Offered kept seen burst told' new' → (told ≡ told') × (new ≡ new')
   offered_one burst told told' new new' p q =
       let some = holds_some kept seen.count room in
-      let same = answers_same seen.ended some.file _ _ _ _ (p.answers some.file some.holds) (q.answers some.file some.holds) in
+      let same = answers_same seen.ended some.file _ _ (p.answers some.file some.holds) (q.answers some.file some.holds) in
       (told_same told told' (p.notes ∙ sym q.notes) same, p.keeps ∙ sym q.keeps)
 
   pub ended_one : (told told' : Taken) → Ended kept seen told → Ended kept seen told' → told ≡ told'
   ended_one told told' p q =
       let some = holds_some kept seen.count room in
-      told_same told told' (p.notes ∙ sym q.notes) (read_same some.file _ _ _ _ (p.answers some.file some.holds) (q.answers some.file some.holds))
+      told_same told told' (p.notes ∙ sym q.notes) (read_same some.file _ _ (p.answers some.file some.holds) (q.answers some.file some.holds))

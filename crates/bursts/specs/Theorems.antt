@@ -1,13 +1,11 @@
 -- What is proved of a file that comes in bursts. Each statement stands here under a name; a comment names the law of proofs/ that proves it.
 -- Assumes nothing.
-use Rattle.std.specs.Prelude.{ℕ, ◌≡◌, List, [], ◌∷◌, ◌++◌, length}
-use Rattle.file.specs.declared.Reading.{Reading}
-use Rattle.file.specs.Format.{ReadsAs}
+use Rattle.std.specs.Prelude.{ℕ, ◌≡◌, List, [], ◌∷◌, ◌++◌, Some, length}
+use Rattle.file.specs.Format.{ReadsAs, verdict_in, tree_in}
 use Rattle.file.specs.Fronts.{most_file_bytes}
 use Rattle.bursts.specs.declared.Seen.{Seen}
-use Rattle.bursts.specs.declared.Answered.TheVariants.{Reads}
 use Rattle.bursts.specs.declared.Taken.{Taken}
-use Rattle.bursts.specs.Bursts.{Holds, Begun, Offered, Ended}
+use Rattle.bursts.specs.Bursts.{Holds, Reading, Begun, Offered, Ended}
 
 -- a file that some memory holds
 pub record HoldsSome (kept : List ℕ) (count : ℕ) : Type 0 where
@@ -44,17 +42,15 @@ together (burst ∷ bursts) = burst ++ together bursts
 
 -- a reading is told
 pub record TellsReading (r : Reading) (told : Taken) : Type 0 where
-  pub verdict : told.answer ≡ Reads r.verdict
-  pub tree : told.tree ≡ r.tree
+  pub answer : told.answer ≡ Some r
 
 -- "the one the whole-file reader of 01 gives, however the bytes were cut": `cut_reads`
 abbrev pub CutReads : Type 0
-CutReads = (bursts : List (List ℕ)) (told : Taken) (r : Reading) → Came bursts told → ReadsAs (together bursts) r.verdict r.tree → TellsReading r told
+CutReads = (bursts : List (List ℕ)) (told : Taken) (r : Reading) → Came bursts told → ReadsAs (together bursts) (verdict_in r) (tree_in r) → TellsReading r told
 
 -- two answers that say the same
 pub record SameAnswer (a b : Taken) : Type 0 where
   pub answer : a.answer ≡ b.answer
-  pub tree : a.tree ≡ b.tree
 
 -- two ways to cut one file have one answer: `cuts_agree`
 abbrev pub CutsAgree : Type 0

@@ -4,7 +4,7 @@
 
 ghost use Rattle.bursts.specs.Bursts.{Begun, Offered, Ended};
 
-use tree::{Tree, Verdict};
+use tree::{Fault, Tree};
 
 mod keeping;
 
@@ -17,25 +17,17 @@ pub const MOST_SEEN: usize = 4294967296;
 pub type Kept = [u8; KEPT];
 
 // What was seen of it: how many bytes, a count that stops at 2^32, and whether its end was told.
-#[derive(Clone, Copy)]
+#[derive(Clone, Copy, PartialEq, Eq)]
 pub struct Seen {
     pub count: usize,
     pub ended: bool,
 }
 
-// Nothing yet, before the end was told; from then on the verdict on the whole file.
-#[derive(Clone, Copy)]
-pub enum Answered {
-    NothingYet,
-    Reads { verdict: Verdict },
-}
-
-// What is said of a burst or of the end: what was seen with it, the answer, and the tree, of no classes where there is none.
+// What is said of a burst or of the end: what was seen with it, and what the whole file reads as, which is not known before its end was told.
 #[derive(Clone, Copy)]
 pub struct Taken {
     pub seen: Seen,
-    pub answer: Answered,
-    pub tree: Tree,
+    pub answer: Option<Result<Tree, Fault>>,
 }
 
 // Before the first byte.
@@ -62,8 +54,7 @@ pub fn offer(kept: &mut Kept, seen: Seen, burst: &[u8]) -> Taken
             count: keeping::counted(seen.count, burst.len()),
             ended: false,
         },
-        answer: Answered::NothingYet,
-        tree: tree::empty(),
+        answer: None,
     }
 }
 
@@ -71,15 +62,11 @@ pub fn offer(kept: &mut Kept, seen: Seen, burst: &[u8]) -> Taken
 pub fn end(kept: &Kept, seen: Seen) -> Taken
     ensures { Ended kept.now seen result }
 {
-    let reading = keeping::reading(kept, seen.count);
-    let verdict = reading.verdict;
-    let tree = reading.tree;
     Taken {
         seen: Seen {
             count: seen.count,
             ended: true,
         },
-        answer: Answered::Reads { verdict },
-        tree,
+        answer: Some(keeping::reading(kept, seen.count)),
     }
 }

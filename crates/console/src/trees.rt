@@ -2,12 +2,12 @@
 ghost use Rattle.console.specs.Trees.{ToldOfSome};
 
 use crate::{ARGUMENT, TURN};
-use bursts::{Answered, KEPT, MOST_SEEN, Seen, Taken};
+use bursts::{KEPT, MOST_SEEN, Seen, Taken};
 use print::Answer;
 use std::io;
 use std::io::Read;
 use std::rt::{Env, Files};
-use tree::{Tree, Verdict};
+use tree::{Fault, Tree};
 
 // A tree, where there is one.
 #[derive(Clone, Copy)]
@@ -23,19 +23,16 @@ pub fn tree_argument(rt: &(impl Env + Files + Print + Eprint), at: usize) -> Tol
     let Some(n) = crate::name(rt, at, b"TREE", &mut name) else {
         return untold();
     };
-    let taken = read_tree(rt, &name[..n]);
-    let reads = taken.answer;
-    let Answered::Reads { verdict } = reads else {
-        return untold();
-    };
-    if let Verdict::Refused { why, class } = verdict {
-        let _ = crate::say(rt, Answer::TreeRefused { why, class });
-        return untold();
-    }
-    let tree = taken.tree;
-    Told {
-        is_there: true,
-        tree,
+    match read_tree(rt, &name[..n]).answer {
+        Some(Ok(tree)) => Told {
+            is_there: true,
+            tree,
+        },
+        Some(Err(Fault { why, class })) => {
+            let _ = crate::say(rt, Answer::TreeRefused { why, class });
+            untold()
+        }
+        None => untold(),
     }
 }
 
@@ -90,7 +87,6 @@ fn unread(rt: &impl Eprint, name: &[u8], error: io::Error) -> Taken
             count: 0,
             ended: false,
         },
-        answer: Answered::NothingYet,
-        tree: tree::empty(),
+        answer: None,
     }
 }

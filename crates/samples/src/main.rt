@@ -9,7 +9,7 @@ use console::{ARGUMENT, TURN};
 use print::Answer;
 use std::io;
 use std::rt::{Env, Files};
-use tree::{Tree, Verdict};
+use tree::{Fault, Tree};
 
 // What stands at a number that no class can have.
 fn print_beyond(rt: &(impl Print + Eprint), tree: Tree) -> io::Result<()> {
@@ -22,14 +22,12 @@ fn print_beyond(rt: &(impl Print + Eprint), tree: Tree) -> io::Result<()> {
 }
 
 // What a file reads as in bursts. Its tree is then seen by what is written of it.
-fn print_answer(rt: &(impl Print + Eprint), answer: bursts::Answered) -> io::Result<()> {
+fn print_answer(rt: &(impl Print + Eprint), answer: Option<Result<Tree, Fault>>) -> io::Result<()> {
     console::text(rt, b"in bursts: ")?;
-    let bursts::Answered::Reads { verdict } = answer else {
-        return console::text(rt, b"nothing yet\n");
-    };
-    match verdict {
-        Verdict::Right => console::text(rt, b"right\n"),
-        Verdict::Refused { why, class } => console::say(rt, Answer::TreeRefused { why, class }),
+    match answer {
+        None => console::text(rt, b"nothing yet\n"),
+        Some(Ok(_)) => console::text(rt, b"right\n"),
+        Some(Err(Fault { why, class })) => console::say(rt, Answer::TreeRefused { why, class }),
     }
 }
 
@@ -44,21 +42,26 @@ fn print_file(rt: &(impl Files + Print + Eprint), name: &[u8]) -> io::Result<()>
     };
     let mut bytes = [0u8; TURN];
     let n = console::read_full(&mut file, &mut bytes)?;
-    let reading = file::reader::read(&bytes[..n]);
-    let verdict = reading.verdict;
-    match verdict {
-        Verdict::Right => {
-            console::say_tree(rt, reading.tree)?;
-            print_beyond(rt, reading.tree)?;
+    match file::reader::read(&bytes[..n]) {
+        Ok(tree) => {
+            console::say_tree(rt, tree)?;
+            print_beyond(rt, tree)?;
         }
-        Verdict::Refused { why, class } => {
+        Err(Fault { why, class }) => {
             console::say(rt, Answer::TreeRefused { why, class })?;
         }
     }
-    let told = cut::read(&bytes[..n]);
-    let answer = told.answer;
+    let answer = cut::read(&bytes[..n]).answer;
     print_answer(rt, answer)?;
-    writing::print(rt, told.tree, &bytes[..n])
+    writing::print(rt, tree_in(answer), &bytes[..n])
+}
+
+// The tree of no classes stands for what was refused.
+fn tree_in(answer: Option<Result<Tree, Fault>>) -> Tree {
+    match answer {
+        Some(Ok(tree)) => tree,
+        _ => tree::empty(),
+    }
 }
 
 fn print_argument(rt: &(impl Env + Files + Print + Eprint), i: usize) -> io::Result<()> {

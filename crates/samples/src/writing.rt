@@ -2,10 +2,9 @@
 // first, so that it shows which bytes were written.
 ghost use Rattle.std.specs.Prelude.{◌≤◌, ◌<◌, length};
 
-use file::writer::Written;
 use print::Answer;
 use std::io;
-use tree::Tree;
+use tree::{Fault, Tree};
 
 const FILL: u8 = 170;
 
@@ -82,7 +81,7 @@ fn is_filled(out: &[u8; 4096], from: usize) -> bool {
 }
 
 // Lends the writer so many bytes.
-fn written(tree: Tree, out: &mut [u8], room: usize) -> Written
+fn written(tree: Tree, out: &mut [u8], room: usize) -> Result<u32, Fault>
     requires { room ≤ length out.old }
 {
     file::writer::write(tree, &mut out[..room])
@@ -101,7 +100,7 @@ fn print_writing(
     let mut out = filled();
     let answer = written(tree, &mut out, room);
     match answer {
-        Written::Bytes(total) => {
+        Ok(total) => {
             console::text(rt, b"written")?;
             console::number(rt, total as u64)?;
             print_copy(rt, &out, file, total as usize)?;
@@ -112,7 +111,7 @@ fn print_writing(
                 b", some beyond\n",
             )?;
         }
-        Written::Refused { why, class } => {
+        Err(Fault { why, class }) => {
             console::say(rt, Answer::TreeRefused { why, class })?;
             print_whether(rt, is_filled(&out, 0), b"none written\n", b"some written\n")?;
         }

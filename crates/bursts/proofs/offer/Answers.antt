@@ -10,4 +10,4 @@ pub returns : goal.returns
 returns c =
     let a = c in
     let count = c.counted.ensures in
-    offered_early _ _ _ _ _ (omega arith) a.if-seen.false c.keep.ensures (λ i. record { count = count i; ended = false }) refl c.empty.ensures
+    offered_early _ _ _ _ _ (omega arith) a.if-seen.false c.keep.ensures (λ i. record { count = count i; ended = false }) refl
