@@ -31,25 +31,22 @@ fn all(out: &mut [u8], sheet: &[u64], lines: usize) -> usize
     requires { (numbers * lines ≤ length sheet.now) × (lines ≤ most_classes) × (sheet_room ≤ length out.old) }
     ensures { Printed out.old 0 (sheet_text sheet.now lines) out.new result × (result ≤ sheet_room) }
 {
+    let (rows, _) = sheet.as_chunks::<NUMBERS>();
     let mut at = 0;
-    for i in 0..lines {
-        at = row(out, at, sheet, NUMBERS * i);
+    for row in &rows[..lines] {
+        at = put_row(out, at, *row);
     }
     at
 }
 
-// The line of the five numbers from a place of the sheet on.
-fn row(out: &mut [u8], at: usize, sheet: &[u64], from: usize) -> usize
-    requires { (at + why_line_room ≤ length out.old) × (from + numbers ≤ length sheet.now) }
-    ensures { Printed out.old at (line_text_at sheet.now from) out.new result × (result ≤ at + why_line_room) }
+// The line of five numbers: the leaf, the reason's number and its values.
+fn put_row(out: &mut [u8], at: usize, row: [u64; NUMBERS]) -> usize
+    requires { at + why_line_room ≤ length out.old }
+    ensures { Printed out.old at (line_text_at row 0) out.new result × (result ≤ at + why_line_room) }
 {
-    let reason = reason::reason_of(
-        sheet[from + 1],
-        sheet[from + 2],
-        sheet[from + 3],
-        sheet[from + 4],
-    );
-    line(out, at, sheet[from], reason)
+    let [leaf, number, first, second, third] = row;
+    let reason = reason::reason_of(number, first, second, third);
+    line(out, at, leaf, reason)
 }
 
 // As `leaf 4: has no real-time curve`.

@@ -7,23 +7,20 @@ use mathlib.Core.List.{List, [], ◌∷◌}
 use native.Mathlib.Omega.{arith}
 use native.Mathlib.Numerals.{towards_suc}
 use lib.ListN.{length, get_or, set, length-set}
-use lib.Seq.{sets, length-sets, get_or-set_same, get_or-set_other}
+use borrow.Rule.Slice.PartMut.{put_mid}
+use Rattle.std.proofs.lemmas.List.Edits.{sets-eq}
+use Rattle.std.proofs.lemmas.Slice.{put_mid-paste}
+use lib.Seq.{sets, take_all, length-sets, get_or-set_same, get_or-set_other}
 use Rattle.reason.specs.declared.Reason.{Reason}
 use Rattle.reason.specs.declared.Reason.TheVariants.{NothingWaits, ChosenByDeadline, NoCurve, NotEligible, LaterDeadline, HigherNumber, ChosenByShare, PassedOver}
 use Rattle.reason.specs.Reasons.{numbers, number_of, values_of, line_of, reason_of, ReasonBack}
 use Rattle.reason.specs.Lines.{LineAt, PutLine}
 
--- five stores, one after another, are the run of the line
-pub five_stores : (old : List ℕ) (at leaf : ℕ) (r : Reason) (kind : ℕ) (vs : List ℕ) → kind ≡ number_of r → vs ≡ values_of r
-    → PutLine old at leaf r (set (set (set (set (set old at leaf) (at + 1) kind) (at + 2) (get_or vs 0 0)) (at + 3) (get_or vs 1 0)) (at + 4) (get_or vs 2 0))
-five_stores old at leaf NothingWaits kind vs e f = rw (e, f) (simp towards_suc)
-five_stores old at leaf ChosenByDeadline kind vs e f = rw (e, f) (simp towards_suc)
-five_stores old at leaf NoCurve kind vs e f = rw (e, f) (simp towards_suc)
-five_stores old at leaf (NotEligible until) kind vs e f = rw (e, f) (simp towards_suc)
-five_stores old at leaf (LaterDeadline chosen) kind vs e f = rw (e, f) (simp towards_suc)
-five_stores old at leaf (HigherNumber chosen) kind vs e f = rw (e, f) (simp towards_suc)
-five_stores old at leaf ChosenByShare kind vs e f = rw (e, f) (simp towards_suc)
-five_stores old at leaf (PassedOver class child time) kind vs e f = rw (e, f) (simp towards_suc)
+-- a copy of a run over a part of the sheet is the run's stores, one after another
+copied_run : (old new run : List ℕ) (at n k : ℕ) → new ≡ run → n ≡ k → length run ≡ k → at + k ≤ length old → put_mid at n old new ≡ sets old at run
+copied_run old new run at n k e f long room =
+    put_mid-paste at n old new run k e (sym f) (sym long)
+    ∙ rw (take_all k run (omega arith), ← long) (sym (sets-eq run old at (omega arith)))
 
 -- what a run of stores leaves alone
 pub sets_other : (vs old : List ℕ) (at n : ℕ) → (n < at) ⊎ (at + length vs ≤ n) → get_or (sets old at vs) n 0 ≡ get_or old n 0
@@ -49,6 +46,10 @@ line_length leaf (LaterDeadline chosen) = refl
 line_length leaf (HigherNumber chosen) = refl
 line_length leaf ChosenByShare = refl
 line_length leaf (PassedOver class child time) = refl
+
+pub copied_line : (old new : List ℕ) (at n leaf : ℕ) (r : Reason) → new ≡ line_of leaf r → n ≡ numbers → at + numbers ≤ length old
+    → PutLine old at leaf r (put_mid at n old new)
+copied_line old new at n leaf r e f room = copied_run old new (line_of leaf r) at n numbers e f (line_length leaf r) room
 
 -- a line that was put into a sheet with room for it: the sheet's size, the line, and all else
 module _ (old new : List ℕ) (at leaf : ℕ) (r : Reason) (put : PutLine old at leaf r new) where

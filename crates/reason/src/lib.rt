@@ -3,12 +3,12 @@
 #![tactic(auto)]
 
 ghost use Rattle.std.specs.Prelude.{◌≡◌, ◌+◌, ◌≤◌, length};
-ghost use Rattle.reason.specs.Reasons.{numbers, values_of, number_of, reason_of};
+ghost use Rattle.reason.specs.Reasons.{numbers, line_of, reason_of};
 ghost use Rattle.reason.specs.Lines.{PutLine};
 
 // Nothing waits; chosen by deadline; no real-time curve; not eligible until that tick; behind the chosen leaf, by a later
 // deadline or by an equal one and a higher number; chosen by share; passed over at a class for a child of that virtual time.
-#[derive(Clone, Copy)]
+#[derive(Clone, Copy, PartialEq, Eq)]
 pub enum Reason {
     NothingWaits,
     ChosenByDeadline,
@@ -40,38 +40,21 @@ pub const PASSED_OVER: u64 = 7;
 // The numbers of a line: the leaf, the reason, and up to three values.
 pub const NUMBERS: usize = 5;
 
-fn number(reason: Reason) -> u64
-    ensures { result ≡ number_of reason }
-{
-    match reason {
-        Reason::NothingWaits => NOTHING_WAITS,
-        Reason::ChosenByDeadline => CHOSEN_BY_DEADLINE,
-        Reason::NoCurve => NO_CURVE,
-        Reason::NotEligible { until: _ } => NOT_ELIGIBLE,
-        Reason::LaterDeadline { chosen: _ } => LATER_DEADLINE,
-        Reason::HigherNumber { chosen: _ } => HIGHER_NUMBER,
-        Reason::ChosenByShare => CHOSEN_BY_SHARE,
-        Reason::PassedOver {
-            class: _,
-            child: _,
-            time: _,
-        } => PASSED_OVER,
-    }
-}
-
-// The values of a reason, 0 where there is nothing to say.
-fn values(reason: Reason) -> [u64; 3]
-    ensures { result ≡ values_of reason }
-{
-    match reason {
-        Reason::NothingWaits => [0, 0, 0],
-        Reason::ChosenByDeadline => [0, 0, 0],
-        Reason::NoCurve => [0, 0, 0],
-        Reason::NotEligible { until } => [until, 0, 0],
-        Reason::LaterDeadline { chosen } => [chosen, 0, 0],
-        Reason::HigherNumber { chosen } => [chosen, 0, 0],
-        Reason::ChosenByShare => [0, 0, 0],
-        Reason::PassedOver { class, child, time } => [class, child, time],
+impl Reason {
+    // Its line of a sheet, which begins with the leaf; a value is 0 where there is nothing to say.
+    fn line(self, leaf: u64) -> [u64; NUMBERS]
+        ensures { result ≡ line_of leaf self }
+    {
+        match self {
+            Reason::NothingWaits => [leaf, NOTHING_WAITS, 0, 0, 0],
+            Reason::ChosenByDeadline => [leaf, CHOSEN_BY_DEADLINE, 0, 0, 0],
+            Reason::NoCurve => [leaf, NO_CURVE, 0, 0, 0],
+            Reason::NotEligible { until } => [leaf, NOT_ELIGIBLE, until, 0, 0],
+            Reason::LaterDeadline { chosen } => [leaf, LATER_DEADLINE, chosen, 0, 0],
+            Reason::HigherNumber { chosen } => [leaf, HIGHER_NUMBER, chosen, 0, 0],
+            Reason::ChosenByShare => [leaf, CHOSEN_BY_SHARE, 0, 0, 0],
+            Reason::PassedOver { class, child, time } => [leaf, PASSED_OVER, class, child, time],
+        }
     }
 }
 
@@ -80,43 +63,27 @@ pub fn put(sheet: &mut [u64], at: usize, leaf: u64, reason: Reason)
     requires { at + numbers ≤ length sheet.old }
     ensures { PutLine sheet.old at leaf reason sheet.new }
 {
-    let kind = number(reason);
-    let values = values(reason);
-    sheet[at] = leaf;
-    sheet[at + 1] = kind;
-    sheet[at + 2] = values[0];
-    sheet[at + 3] = values[1];
-    sheet[at + 4] = values[2];
+    sheet[at..at + NUMBERS].copy_from_slice(&reason.line(leaf));
 }
 
 // The reason that a line's number and values say. A number that no reason has says that nothing waits.
+// Stays: numbers for reasons are the C interface, and the definition `reason_of` has a reason for each: `TryFrom` would have its caller name the last arm.
+#[tactic(auto, unfolding(crate::specs::Reasons::reason_of))]
 pub fn reason_of(number: u64, first: u64, second: u64, third: u64) -> Reason
     ensures { result ≡ reason_of number first second third }
 {
-    if number == CHOSEN_BY_DEADLINE {
-        return Reason::ChosenByDeadline;
-    }
-    if number == NO_CURVE {
-        return Reason::NoCurve;
-    }
-    if number == NOT_ELIGIBLE {
-        return Reason::NotEligible { until: first };
-    }
-    if number == LATER_DEADLINE {
-        return Reason::LaterDeadline { chosen: first };
-    }
-    if number == HIGHER_NUMBER {
-        return Reason::HigherNumber { chosen: first };
-    }
-    if number == CHOSEN_BY_SHARE {
-        return Reason::ChosenByShare;
-    }
-    if number == PASSED_OVER {
-        return Reason::PassedOver {
+    match number {
+        CHOSEN_BY_DEADLINE => Reason::ChosenByDeadline,
+        NO_CURVE => Reason::NoCurve,
+        NOT_ELIGIBLE => Reason::NotEligible { until: first },
+        LATER_DEADLINE => Reason::LaterDeadline { chosen: first },
+        HIGHER_NUMBER => Reason::HigherNumber { chosen: first },
+        CHOSEN_BY_SHARE => Reason::ChosenByShare,
+        PASSED_OVER => Reason::PassedOver {
             class: first,
             child: second,
             time: third,
-        };
+        },
+        _ => Reason::NothingWaits,
     }
-    Reason::NothingWaits
 }

@@ -1,8 +1,8 @@
 -- The call: its checks against those of the definition, and the sheet that it leaves.
 -- Assumes nothing.
-use Rattle.std.specs.Prelude.{Ok, Err}
 use Rattle.state.specs.Kinds.{NextClock}
 use Prim.Native.Nat.{ℕ, ◌*◌, ◌≤◌, ◌<◌}
+use Rattle.std.specs.Prelude.{Ok, Err}
 use mathlib.Core.Path.{◌≡◌, refl, sym, ◌∙◌, subst}
 use mathlib.Core.List.{List, [], ◌∷◌, ◌++◌}
 use native.Mathlib.Omega.{arith}
@@ -24,8 +24,6 @@ use Rattle.state.proofs.Resting.{count_within}
 use Rattle.state.proofs.Choosing.{count_most}
 use Rattle.state.proofs.Shown.{tick_refused, tick_kept, checks_after, tick_shown, tick_timely, shown_told}
 use Rattle.reason.specs.Reasons.{numbers}
-use Rattle.why.specs.declared.Sheet.{Sheet}
-use Rattle.why.specs.declared.Sheet.TheVariants.{Lines}
 use Rattle.why.specs.Promises.{line_number, line_count, LineFor, sheet_checks, WhyRight}
 use Rattle.why.specs.Steps.{Fillable, Filled}
 
@@ -39,7 +37,7 @@ count_narrow {h} law = omega (arith, count_within h.tree.count (is_leaf h.tree),
 
 module _ {m l : List ℕ} (h : History) (law : Lawful h) (shows : Shows m l h) (stamp : ℕ) {r : NextClock}
     (ticked : r ≡ tick_of (header_at m CLOCK) (header_at m STAMP) stamp) (s : List ℕ) where
-  pub clock_refuses : (why : Refusal) → r ≡ Err why → WhyRight h stamp (Sheet.Refused why) s s
+  pub clock_refuses : (why : Refusal) → r ≡ Err why → WhyRight h stamp (Err why) s s
   clock_refuses why e = record { checked = tick_refused h stamp why _ (sym e ∙ ticked ∙ tick_shown law shows stamp); found = refl }
 
   module _ (now : ℕ) (e : r ≡ Ok now) where
@@ -49,7 +47,7 @@ module _ {m l : List ℕ} (h : History) (law : Lawful h) (shows : Shows m l h) (
         let (isNow, (near, late)) = tick_kept h stamp now (sym e ∙ ticked ∙ tick_shown law shows stamp) in
         checks_after h stamp rest near late
 
-    pub too_short : length s < numbers * line_count h.tree → WhyRight h stamp (Sheet.Refused SmallBuffer) s s
+    pub too_short : length s < numbers * line_count h.tree → WhyRight h stamp (Err SmallBuffer) s s
     unfolding outcome
     too_short short = record { checked = only_room (room_check h (length s)) ∙ rw (lt-ltb (length s) (numbers * line_count h.tree) short) refl; found = refl }
 
@@ -61,7 +59,7 @@ module _ {m l : List ℕ} (h : History) (law : Lawful h) (shows : Shows m l h) (
       unfolding outcome
       passes = only_room (room_check h (length s)) ∙ rw (le-ltb (length s) (numbers * line_count h.tree) room) refl
 
-      pub sheet_right : (lines : ℕ) (t : List ℕ) → lines ≡ line_count h.tree → Filled h.tree h.calls now h.tree.count s t → WhyRight h stamp (Lines lines) s t
+      pub sheet_right : (lines : ℕ) (t : List ℕ) → lines ≡ line_count h.tree → Filled h.tree h.calls now h.tree.count s t → WhyRight h stamp (Ok lines) s t
       sheet_right lines t count f =
           let isNow = (tick_kept h stamp now (sym e ∙ ticked ∙ tick_shown law shows stamp)).0 in
           record {

@@ -1,6 +1,7 @@
 -- The promise of a sheet allows one result: the answer, and all that the sheet holds.
 -- Assumes nothing.
 use Prim.Native.Nat.{ℕ, zero, suc, ◌+◌, ◌*◌, ◌/◌, ◌%◌, ◌≤◌, ◌<◌}
+use Rattle.std.specs.Prelude.{Result, Ok, Err}
 use mathlib.Core.Path.{◌≡◌, refl, sym, ◌∙◌, ap, subst}
 use mathlib.Core.Bool.{true, false}
 use mathlib.Core.List.{List}
@@ -19,8 +20,6 @@ use Rattle.rules.proofs.Tests.{decided}
 use Rattle.curve.proofs.Laws.Order.{le_or_lt}
 use Rattle.reason.specs.declared.Reason.{Reason}
 use Rattle.reason.specs.Reasons.{numbers, line_of}
-use Rattle.why.specs.declared.Sheet.{Sheet}
-use Rattle.why.specs.declared.Sheet.TheVariants.{Lines}
 use Rattle.why.specs.Promises.{line_number, line_count, SheetFilled, sheet_number, sheet_lines, WhyRight}
 use Rattle.why.specs.Theorems.{WhyOne, TellOne, ToldRefused}
 use Rattle.why.proofs.Sheets.{number_none, number_more, number_same}
@@ -63,11 +62,11 @@ passed_refused : {A : Type 0} {a : ℕ} → passed ≡ refused a → A
 passed_refused e = let z : ◌≡◌ {A = ℕ} 0 1 = cc in absurd (omega arith)
 
 pub why_one : WhyOne
-why_one h law stamp old (Lines a) (Lines b) x y p q = (ap Lines (p.count ∙ sym q.count), filled_one h law stamp p q)
-why_one h law stamp old (Lines a) (Sheet.Refused why) x y p q = passed_refused (sym p.checked ∙ q.checked)
-why_one h law stamp old (Sheet.Refused why) (Lines b) x y p q = passed_refused (sym q.checked ∙ p.checked)
-why_one h law stamp old (Sheet.Refused v) (Sheet.Refused w) x y p q =
-    (ap (λ (z : Refusal). Sheet.Refused z) (refusal_by_number v w (refused_number (sym p.checked ∙ q.checked))), p.found ∙ sym q.found)
+why_one h law stamp old (Ok a) (Ok b) x y p q = (ap Ok (p.count ∙ sym q.count), filled_one h law stamp p q)
+why_one h law stamp old (Ok a) (Err why) x y p q = passed_refused (sym p.checked ∙ q.checked)
+why_one h law stamp old (Err why) (Ok b) x y p q = passed_refused (sym q.checked ∙ p.checked)
+why_one h law stamp old (Err v) (Err w) x y p q =
+    (ap Err (refusal_by_number v w (refused_number (sym p.checked ∙ q.checked))), p.found ∙ sym q.found)
 
 pub tell_one : TellOne
 tell_one m l reached stamp old said said' lines lines' x y p q =
@@ -78,7 +77,7 @@ tell_one m l reached stamp old said said' lines lines' x y p q =
 pub told_refused : ToldRefused
 told_refused m l reached stamp old said lines new t some = go t.answer refl
   where
-    go : (a : Sheet) → t.answer ≡ a → (new ≡ old) × (lines ≡ 0)
-    go (Lines n) e = absurd (some (t.number ∙ ap sheet_number e))
-    go (Sheet.Refused why) e =
-        ((subst (λ (a : Sheet). WhyRight reached.history stamp a old new) e (t.right reached.history reached.lawful reached.shows)).found, t.count ∙ ap sheet_lines e)
+    go : (a : Result ℕ Refusal) → t.answer ≡ a → (new ≡ old) × (lines ≡ 0)
+    go (Ok n) e = absurd (some (t.number ∙ ap sheet_number e))
+    go (Err why) e =
+        ((subst (λ (a : Result ℕ Refusal). WhyRight reached.history stamp a old new) e (t.right reached.history reached.lawful reached.shows)).found, t.count ∙ ap sheet_lines e)

@@ -1,6 +1,6 @@
 -- What the sheet promises: its checks, its lines, and the rest of it.
 -- Assumes nothing.
-use Rattle.std.specs.Prelude.{ℕ, ◌*◌, ◌≤◌, ◌≡◌, true, List, [], ◌∷◌, ◌++◌, length, get_or, ltb}
+use Rattle.std.specs.Prelude.{ℕ, ◌*◌, ◌≤◌, ◌≡◌, true, List, [], ◌∷◌, ◌++◌, length, get_or, ltb, Result, Ok, Err}
 use Rattle.tree.specs.declared.Tree.{Tree}
 use Rattle.tree.specs.declared.Refusal.{Refusal}
 use Rattle.tree.specs.Numbers.{number_of as refusalNumber}
@@ -13,8 +13,6 @@ use Rattle.state.specs.Heads.{EveryHistory}
 use Rattle.reason.specs.declared.Reason.{Reason}
 use Rattle.reason.specs.Reasons.{numbers}
 use Rattle.reason.specs.Lines.{LineAt}
-use Rattle.why.specs.declared.Sheet.{Sheet}
-use Rattle.why.specs.declared.Sheet.TheVariants.{Lines}
 use Rattle.why.specs.Why.{Holds}
 
 -- "for every leaf, in number order": a leaf's line is the one whose number is how many leaves have a lower number, and there are as many lines as leaves
@@ -47,22 +45,22 @@ pub record SheetRefused (h : History) (stamp : ℕ) (why : Refusal) (old new : L
   pub checked : outcome (sheet_checks h.tree h.calls (ticks h stamp) (length old)) ≡ refused (refusalNumber why)
   pub found : new ≡ old
 
-abbrev pub WhyRight : History → (stamp : ℕ) → Sheet → (old new : List ℕ) → Type 0
-WhyRight h stamp (Lines lines) old new = SheetFilled h stamp lines old new
-WhyRight h stamp (Sheet.Refused why) old new = SheetRefused h stamp why old new
+abbrev pub WhyRight : History → (stamp : ℕ) → Result ℕ Refusal → (old new : List ℕ) → Type 0
+WhyRight h stamp (Ok lines) old new = SheetFilled h stamp lines old new
+WhyRight h stamp (Err why) old new = SheetRefused h stamp why old new
 
 -- The answer in numbers: 0, or the number of the refusal; and how many lines there are, 0 where it is refused.
-abbrev pub sheet_number : Sheet → ℕ
-sheet_number (Lines lines) = 0
-sheet_number (Sheet.Refused why) = refusalNumber why
+abbrev pub sheet_number : Result ℕ Refusal → ℕ
+sheet_number (Ok lines) = 0
+sheet_number (Err why) = refusalNumber why
 
-abbrev pub sheet_lines : Sheet → ℕ
-sheet_lines (Lines lines) = lines
-sheet_lines (Sheet.Refused why) = 0
+abbrev pub sheet_lines : Result ℕ Refusal → ℕ
+sheet_lines (Ok lines) = lines
+sheet_lines (Err why) = 0
 
 -- of the call in numbers: `said` is what it answers, `lines` and `new` what it writes; `old` is the sheet before it
 pub record WhyTold (m l : List ℕ) (stamp : ℕ) (old : List ℕ) (said lines : ℕ) (new : List ℕ) : Type 0 where
-  pub answer : Sheet
+  pub answer : Result ℕ Refusal
   pub number : said ≡ sheet_number answer
   pub count : lines ≡ sheet_lines answer
   pub right : EveryHistory m l (λ h. WhyRight h stamp answer old new)

@@ -1,11 +1,12 @@
 -- What is proved of the reasons. Each statement stands here under a name; a comment names the law of proofs/ that proves it.
 -- Assumes nothing.
-use Rattle.std.specs.Prelude.{ℕ, ◌≡◌, true, List, Some, None, Ok}
+use Rattle.std.specs.Prelude.{ℕ, ◌≡◌, true, List, Result, Some, None, Ok}
 use Rattle.tree.specs.declared.Tree.{Tree}
 use Rattle.tree.specs.Trees.{is_leaf}
 use Rattle.rules.specs.declared.Rule.{Rule}
 use Rattle.rules.specs.declared.Rule.TheVariants.{RealTime, Fair}
 use Rattle.rules.specs.declared.Packet.{Packet}
+use Rattle.tree.specs.declared.Refusal.{Refusal}
 use Rattle.rules.specs.Calls.{Call, History}
 use Rattle.rules.specs.Choice.{FairRule}
 use Rattle.rules.specs.Lawful.{Grown, LawfulCalls, Lawful}
@@ -13,7 +14,6 @@ use Rattle.rules.specs.Answers.{Departs, next_clock}
 use Rattle.state.specs.State.{Reached}
 use Rattle.reason.specs.declared.Reason.{Reason}
 use Rattle.reason.specs.declared.Reason.TheVariants.{NothingWaits, ChosenByDeadline, ChosenByShare, PassedOver}
-use Rattle.why.specs.declared.Sheet.{Sheet}
 use Rattle.why.specs.Why.{Holds, LastCommon}
 use Rattle.why.specs.Promises.{WhyRight, WhyTold}
 
@@ -26,7 +26,7 @@ ReasonSome = (tree : Tree) (cs : List Call) → Grown tree → LawfulCalls tree 
 
 -- two results that the promise allows, the sheet's contents among them, are equal: `why_one`
 abbrev pub WhyOne : Type 0
-WhyOne = (h : History) → Lawful h → (stamp : ℕ) (old : List ℕ) (a b : Sheet) (x y : List ℕ) → WhyRight h stamp a old x → WhyRight h stamp b old y → (a ≡ b) × (x ≡ y)
+WhyOne = (h : History) → Lawful h → (stamp : ℕ) (old : List ℕ) (a b : Result ℕ Refusal) (x y : List ℕ) → WhyRight h stamp a old x → WhyRight h stamp b old y → (a ≡ b) × (x ≡ y)
 
 -- and so are those of the call in numbers: `tell_one`
 abbrev pub TellOne : Type 0

@@ -8,7 +8,7 @@ ghost use Rattle.state.specs.State.{Reached};
 ghost use Rattle.state.specs.Heads.{Some, SomeCalls, EveryCalls, EveryHistory};
 ghost use Rattle.state.specs.StepsChoosing.{Told};
 ghost use Rattle.why.specs.Why.{Holds, LastCommon};
-ghost use Rattle.why.specs.Promises.{line_count, sheet_number, sheet_lines, WhyRight, WhyTold};
+ghost use Rattle.why.specs.Promises.{line_count, WhyRight, WhyTold};
 ghost use Rattle.why.specs.Steps.{Apart, AskedRealTime, AskedFair, Asked, Fillable, Filled};
 
 use reason::{NUMBERS, Reason};
@@ -20,38 +20,28 @@ use state::table::{
 use state::ticks::{NextClock, tick};
 use tree::Refusal;
 
-// How many lines the sheet got, or why it got none.
-#[derive(Clone, Copy)]
-pub enum Sheet {
-    Lines { lines: u64 },
-    Refused { why: Refusal },
-}
-
 // The last class common to the ways up from two leaves, and its child on the second one's way.
-#[derive(Clone, Copy)]
+#[derive(Clone, Copy, PartialEq, Eq)]
 struct Parting {
     class: usize,
     child: usize,
 }
 
-// For every leaf, in number order, the reason why a departure with this stamp would take from it or not.
-pub fn why(words: &Words, stamp: u32, sheet: &mut [u64]) -> Sheet
+// For every leaf, in number order, the reason why a departure with this stamp would take from it or not: how many lines
+// the sheet got, or why it got none.
+pub fn why(words: &Words, stamp: u32, sheet: &mut [u64]) -> Result<u64, Refusal>
     requires { Some (λ l. Reached words.now l) }
     ensures { (l : List ℕ) → EveryHistory words.now l (λ h. WhyRight h stamp result sheet.old sheet.new) }
 {
     match tick(words, stamp) {
-        NextClock::Refused { why } => Sheet::Refused { why },
+        NextClock::Refused { why } => Err(why),
         NextClock::At(now) => {
             let lines = leaves(words);
             if sheet.len() < NUMBERS * lines {
-                return Sheet::Refused {
-                    why: Refusal::SmallBuffer,
-                };
+                return Err(Refusal::SmallBuffer);
             }
             fill(words, now, sheet);
-            Sheet::Lines {
-                lines: lines as u64,
-            }
+            Ok(lines as u64)
         }
     }
 }
@@ -61,26 +51,15 @@ pub fn tell(words: &Words, lengths: &Lengths, stamp: u32, sheet: &mut [u64], lin
     requires { Reached words.now lengths.now }
     ensures { WhyTold words.now lengths.now stamp sheet.old result lines.new sheet.new }
 {
-    let answer = why(words, stamp, sheet);
-    *lines = lines_told(answer);
-    number_told(answer)
-}
-
-fn lines_told(answer: Sheet) -> u64
-    ensures { result ≡ sheet_lines answer }
-{
-    match answer {
-        Sheet::Lines { lines } => lines,
-        Sheet::Refused { why: _ } => 0,
-    }
-}
-
-fn number_told(answer: Sheet) -> u32
-    ensures { result ≡ sheet_number answer }
-{
-    match answer {
-        Sheet::Lines { lines: _ } => 0,
-        Sheet::Refused { why } => tree::number(why),
+    match why(words, stamp, sheet) {
+        Ok(count) => {
+            *lines = count;
+            0
+        }
+        Err(refusal) => {
+            *lines = 0;
+            tree::number(refusal)
+        }
     }
 }
 

@@ -1,6 +1,7 @@
 -- `why::why` meets its contract: refused by the tick, or for its room, or filled; for every history that the arrays show.
 -- Assumes nothing.
 use Prim.Native.Nat.{ℕ, ◌*◌, ◌≤◌, ◌<◌}
+use Rattle.std.specs.Prelude.{Ok, Err}
 use mathlib.Core.Path.{◌≡◌}
 use mathlib.Core.List.{List}
 use native.Mathlib.Omega.{arith}
@@ -11,8 +12,6 @@ use Rattle.rules.specs.Lawful.{Lawful}
 use Rattle.state.specs.State.{Shows}
 use Rattle.reason.specs.Reasons.{numbers}
 use Rattle.state.proofs.Shown.{clock_shown, stamp_shown, shown_told}
-use Rattle.why.specs.declared.Sheet.{Sheet}
-use Rattle.why.specs.declared.Sheet.TheVariants.{Lines}
 use Rattle.why.specs.Promises.{line_count, WhyRight}
 use Rattle.why.specs.Steps.{Fillable, Filled}
 use Rattle.why.proofs.Calls.{count_narrow, clock_refuses, too_short, fillable, sheet_right}
@@ -23,7 +22,7 @@ module _ (c : After-leaves-lines) {l : List ℕ} (h : History) (law : Lawful h) 
   counted : c.leaves-lines.result ≡ line_count h.tree
   counted = c.leaves-lines.ensures h.tree h.calls (shown_told law shows)
 
-  short : (s : List ℕ) → length s < numbers * c.leaves-lines.result → WhyRight h c.args.stamp (Sheet.Refused SmallBuffer) s s
+  short : (s : List ℕ) → length s < numbers * c.leaves-lines.result → WhyRight h c.args.stamp (Err SmallBuffer) s s
   short s less =
       too_short h law shows c.args.stamp c.tick.ensures s c.in-At.now
       c.in-At.is (omega (arith, counted))
@@ -35,7 +34,7 @@ module _ (c : After-leaves-lines) {l : List ℕ} (h : History) (law : Lawful h) 
         c.in-At.is (omega (arith, counted))
 
     done : (t : List ℕ) → Filled h.tree h.calls c.in-At.now h.tree.count s t
-        → WhyRight h c.args.stamp (Lines c.leaves-lines.result) s t
+        → WhyRight h c.args.stamp (Ok c.leaves-lines.result) s t
     done t f =
         sheet_right h law shows c.args.stamp c.tick.ensures s c.in-At.now
         c.in-At.is (omega (arith, counted)) c.leaves-lines.result t counted f
