@@ -17,7 +17,7 @@ use state::choice::{Sender, choose};
 use state::table::{
     ACTIVE, CHILD, COUNT, DEADLINE, ELIGIBLE, KIND, Lengths, PARENT, VIRTUAL, Words, get, header,
 };
-use state::ticks::{NextClock, tick};
+use state::ticks::tick;
 use tree::Refusal;
 
 // The last class common to the ways up from two leaves, and its child on the second one's way.
@@ -33,17 +33,13 @@ pub fn why(words: &Words, stamp: u32, sheet: &mut [u64]) -> Result<u64, Refusal>
     requires { Some (λ l. Reached words.now l) }
     ensures { (l : List ℕ) → EveryHistory words.now l (λ h. WhyRight h stamp result sheet.old sheet.new) }
 {
-    match tick(words, stamp) {
-        NextClock::Refused { why } => Err(why),
-        NextClock::At(now) => {
-            let lines = leaves(words);
-            if sheet.len() < NUMBERS * lines {
-                return Err(Refusal::SmallBuffer);
-            }
-            fill(words, now, sheet);
-            Ok(lines as u64)
-        }
+    let now = tick(words, stamp)?;
+    let lines = leaves(words);
+    if sheet.len() < NUMBERS * lines {
+        return Err(Refusal::SmallBuffer);
     }
+    fill(words, now, sheet);
+    Ok(lines as u64)
 }
 
 // The same in numbers, for hosts in C: 0, with the number of lines in `lines`, or the number of the refusal.
@@ -96,19 +92,19 @@ fn fill(words: &Words, tick: u64, sheet: &mut [u64])
 }
 
 // The reason of a leaf, where this is what the rules choose: something, where a packet waits.
-fn of_leaf(words: &Words, tick: u64, sender: Sender, leaf: usize) -> Reason
+fn of_leaf(words: &Words, tick: u64, sender: Option<Sender>, leaf: usize) -> Reason
     requires { SomeCalls (λ tree cs. Asked words.now tree cs tick sender leaf) }
     ensures { EveryCalls (λ tree cs. Asked words.now tree cs tick sender leaf) (λ tree cs. Holds tree cs tick leaf result) }
 {
     if get(words, leaf, ACTIVE) == 0 {
         return Reason::NothingWaits;
     }
-    match sender {
-        Sender::Nothing => Reason::NothingWaits,
-        Sender::Leaf { class, rule } => match rule {
-            Rule::RealTime => by_deadline(words, tick, class, leaf),
-            Rule::Fair => by_share(words, class, leaf),
-        },
+    let Some(sender) = sender else {
+        return Reason::NothingWaits;
+    };
+    match sender.rule {
+        Rule::RealTime => by_deadline(words, tick, sender.class, leaf),
+        Rule::Fair => by_share(words, sender.class, leaf),
     }
 }
 

@@ -30,7 +30,7 @@ by_deadline-requires c =
     record {
       tree = p.tree;
       calls = p.calls;
-      holds = by_real_time p.holds known.in-Leaf.class known.in-Leaf.rule known.in-Leaf.is (waiting known.before.before p.holds) c.in-RealTime.is;
+      holds = by_real_time p.holds known.in-Some.sender.class known.in-Some.sender.rule known.in-Some.is (waiting known.before.before p.holds) c.in-RealTime.is;
     }
 
 pub by_share-requires : goal.by_share-requires
@@ -43,17 +43,17 @@ by_share-requires c =
       holds =
           record {
             it = known.args.tick;
-            holds = by_fair p.holds known.in-Leaf.class known.in-Leaf.rule known.in-Leaf.is (waiting known.before.before p.holds) c.in-Fair.is;
+            holds = by_fair p.holds known.in-Some.sender.class known.in-Some.sender.rule known.in-Some.is (waiting known.before.before p.holds) c.in-Fair.is;
           };
     }
 
 pub returns-in-RealTime : goal.returns-in-RealTime
 returns-in-RealTime c = λ tree cs a.
     let known = c in
-    c.by_deadline.ensures tree cs (by_real_time a known.in-Leaf.class known.in-Leaf.rule known.in-Leaf.is (waiting known.before.before.before a) c.in-RealTime.is)
+    c.by_deadline.ensures tree cs (by_real_time a known.in-Some.sender.class known.in-Some.sender.rule known.in-Some.is (waiting known.before.before.before a) c.in-RealTime.is)
 
 pub returns-in-Fair : goal.returns-in-Fair
 returns-in-Fair c = λ tree cs a.
     let known = c in
     c.by_share.ensures known.args.tick tree cs
-    (by_fair a known.in-Leaf.class known.in-Leaf.rule known.in-Leaf.is (waiting known.before.before.before a) c.in-Fair.is)
+    (by_fair a known.in-Some.sender.class known.in-Some.sender.rule known.in-Some.is (waiting known.before.before.before a) c.in-Fair.is)

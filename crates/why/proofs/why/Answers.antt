@@ -4,6 +4,7 @@ use Prim.Native.Nat.{ℕ, ◌*◌, ◌≤◌, ◌<◌}
 use Rattle.std.specs.Prelude.{Ok, Err}
 use mathlib.Core.Path.{◌≡◌}
 use mathlib.Core.List.{List}
+use borrow.Author.Rules.{rules}
 use native.Mathlib.Omega.{arith}
 use lib.ListN.{length}
 use Rattle.tree.specs.declared.Refusal.TheVariants.{SmallBuffer}
@@ -24,20 +25,20 @@ module _ (c : After-leaves-lines) {l : List ℕ} (h : History) (law : Lawful h) 
 
   short : (s : List ℕ) → length s < numbers * c.leaves-lines.result → WhyRight h c.args.stamp (Err SmallBuffer) s s
   short s less =
-      too_short h law shows c.args.stamp c.tick.ensures s c.in-At.now
-      c.in-At.is (omega (arith, counted))
+      too_short h law shows c.args.stamp c.tick.ensures s c.in_ok-now.now
+      c.in_ok-now.was (omega (arith, counted))
 
   module _ (s : List ℕ) (room : numbers * c.leaves-lines.result ≤ length s) where
-    ready : Fillable c.args.words.now h.tree h.calls c.in-At.now s
+    ready : Fillable c.args.words.now h.tree h.calls c.in_ok-now.now s
     ready =
-        fillable h law shows c.args.stamp c.tick.ensures s c.in-At.now
-        c.in-At.is (omega (arith, counted))
+        fillable h law shows c.args.stamp c.tick.ensures s c.in_ok-now.now
+        c.in_ok-now.was (omega (arith, counted))
 
-    done : (t : List ℕ) → Filled h.tree h.calls c.in-At.now h.tree.count s t
+    done : (t : List ℕ) → Filled h.tree h.calls c.in_ok-now.now h.tree.count s t
         → WhyRight h c.args.stamp (Ok c.leaves-lines.result) s t
     done t f =
-        sheet_right h law shows c.args.stamp c.tick.ensures s c.in-At.now
-        c.in-At.is (omega (arith, counted)) c.leaves-lines.result t counted f
+        sheet_right h law shows c.args.stamp c.tick.ensures s c.in_ok-now.now
+        c.in_ok-now.was (omega (arith, counted)) c.leaves-lines.result t counted f
 
 pub tick-requires : goal.tick-requires
 tick-requires c = let p = c.requires.holds in (clock_shown p.lawful p.shows, stamp_shown p.lawful p.shows)
@@ -59,14 +60,14 @@ fill-requires c =
       holds = ready (goal.at.fill-requires c).After-leaves-lines p.history p.lawful p.shows c.args.sheet.now (omega (arith, c.if-sheet-lines.false));
     }
 
-pub returns-in-Refused : goal.returns-in-Refused
-returns-in-Refused c = λ l h law shows.
-    let start = c in
-    clock_refuses h law shows start.args.stamp c.tick.ensures start.args.sheet.now c.in-Refused.why c.in-Refused.is
+pub returns-in_err-now : goal.returns-in_err-now
+returns-in_err-now c = λ l h law shows.
+    let said : c.from_residual.result ≡ Err c.in_err-now.field-0.0 = search rules in
+    rw said (clock_refuses h law shows c.args.stamp c.tick.ensures c.args.sheet.now _ c.in_err-now.was)
 
-pub returns-else-sheet-lines : goal.returns-else-sheet-lines
-returns-else-sheet-lines c = λ l h law shows.
-    let counting = (goal.at.returns-else-sheet-lines c).After-leaves-lines in
+pub returns : goal.returns
+returns c = λ l h law shows.
+    let counting = (goal.at.returns c).After-leaves-lines in
     let room = c.if-sheet-lines.false in
     let s = c.args.sheet.now in
     done counting h law shows s (omega (arith, room)) c.fill.new.sheet
