@@ -2,7 +2,7 @@
 -- Assumes nothing.
 use Rattle.std.specs.Prelude.{◌≡◌, ℕ, ◌+◌, ◌*◌, ◌^◌, ◌<◌, true, List, ◌∷◌, ◌++◌, length, ◌≢◌}
 use Rattle.tree.specs.declared.Tree.{Tree}
-use Rattle.tree.specs.declared.Verdict.TheVariants as verdict
+use Rattle.tree.specs.Verdicts.{all_right}
 use Rattle.rules.specs.Calls.{History}
 use Rattle.rules.specs.Answers.{Starts}
 use Rattle.judge.specs.declared.Judgement.TheVariants.{Accepted}
@@ -55,5 +55,5 @@ abbrev pub OwnTextAccepted : Type 0
 OwnTextAccepted =
     (tree : Tree) (first : ℕ) (log m l : List ℕ) (h : History) → first < 2 ^ 32 → Logs tree first log m l h
     → (text : List ℕ) → is_well before_text text ≡ true → numbers_of before_text text ≡ log → length text < 2 ^ 64
-    → (start : History) (at : Progress) (next : History) → Starts tree first verdict.Right start → TextFollows start before_log text at next
+    → (start : History) (at : Progress) (next : History) → Starts tree first all_right start → TextFollows start before_log text at next
     → (judgement_of at ≡ Accepted) × ((line : ℕ) → at.standing ≢ NotANumber line)

@@ -13,7 +13,7 @@ use logtext::{NotANumber, Scan};
 use state::table::{Lengths, Words};
 
 // The numbers of a record that is begun.
-#[derive(Clone, Copy)]
+#[derive(Clone, Copy, PartialEq, Eq)]
 pub enum Held {
     Nothing,
     Kind { kind: u32 },
@@ -22,7 +22,7 @@ pub enum Held {
 }
 
 // How a text stands: right so far, a wrong record after the right ones, or a word that is no number.
-#[derive(Clone, Copy)]
+#[derive(Clone, Copy, PartialEq, Eq)]
 pub enum Standing {
     Right,
     Wrong { finding: Finding },
@@ -42,9 +42,8 @@ pub struct Progress {
 pub fn before() -> Progress
     ensures { result ≡ before_log }
 {
-    let scan = Scan::before();
     Progress {
-        scan,
+        scan: Scan::before(),
         records: 0,
         held: Held::Nothing,
         standing: Standing::Right,
@@ -58,13 +57,11 @@ pub fn judge_text(words: &mut Words, lengths: &mut Lengths, at: Progress, text: 
     ensures reached { Reached words.new lengths.new }
 {
     let mut here = at;
-    let mut i = 0;
-    while i < text.len() {
+    for byte in text {
         if !is_right(here) {
             return here;
         }
-        here = read(words, lengths, here, text[i]);
-        i += 1;
+        here = read(words, lengths, here, *byte);
     }
     here
 }
@@ -73,24 +70,17 @@ pub fn judge_text(words: &mut Words, lengths: &mut Lengths, at: Progress, text: 
 pub fn is_right(at: Progress) -> bool
     ensures { result ≡ is_right at.standing }
 {
-    let standing = at.standing;
-    match standing {
-        Standing::Right => true,
-        Standing::Wrong { finding: _ } => false,
-        Standing::NotANumber { line: _ } => false,
-    }
+    matches!(at.standing, Standing::Right)
 }
 
 // What a text is judged as that ends there, where all of its words are numbers.
 pub fn judgement(at: Progress) -> Judgement
     ensures { result ≡ judgement_of at }
 {
-    let standing = at.standing;
-    if let Standing::Wrong { finding } = standing {
+    if let Standing::Wrong { finding } = at.standing {
         return judge::name(at.records, finding);
     }
-    let held = at.held;
-    let Held::Nothing = held else {
+    let Held::Nothing = at.held else {
         return Judgement::Malformed { record: at.records };
     };
     Judgement::Accepted
@@ -102,11 +92,10 @@ fn read(words: &mut Words, lengths: &mut Lengths, at: Progress, b: u8) -> Progre
     ensures right { EveryHistory words.old lengths.old (λ h. ByteRight h at b result words.new lengths.new) }
     ensures reached { Reached words.new lengths.new }
 {
-    let scan = at.scan;
-    match scan.see(b) {
+    match at.scan.see(b) {
         Ok(None) => step(at, b),
         Ok(Some(n)) => take(words, lengths, step(at, b), n),
-        Err(NotANumber) => stop(at, scan.line),
+        Err(NotANumber) => stop(at),
     }
 }
 
@@ -116,8 +105,7 @@ fn take(words: &mut Words, lengths: &mut Lengths, at: Progress, n: u32) -> Progr
     ensures right { EveryHistory words.old lengths.old (λ h. NumberRight h at n result words.new lengths.new) }
     ensures reached { Reached words.new lengths.new }
 {
-    let held = at.held;
-    match held {
+    match at.held {
         Held::Nothing => hold(at, Held::Kind { kind: n }),
         Held::Kind { kind } => hold(at, Held::Stamp { kind, stamp: n }),
         Held::Stamp { kind, stamp } => hold(
@@ -139,61 +127,43 @@ fn take(words: &mut Words, lengths: &mut Lengths, at: Progress, n: u32) -> Progr
 fn step(at: Progress, b: u8) -> Progress
     ensures { result ≡ moved at b }
 {
-    let scan = at.scan.step(b);
-    let held = at.held;
-    let standing = at.standing;
     Progress {
-        scan,
-        records: at.records,
-        held,
-        standing,
+        scan: at.scan.step(b),
+        ..at
     }
 }
 
 fn hold(at: Progress, held: Held) -> Progress
     ensures { result ≡ holding at held }
 {
-    let scan = at.scan;
-    let standing = at.standing;
-    Progress {
-        scan,
-        records: at.records,
-        held,
-        standing,
-    }
+    Progress { held, ..at }
 }
 
 // A record is complete, and found to be that. No log has 2^64 records.
 fn complete(at: Progress, finding: Finding) -> Progress
     ensures { result ≡ completed at finding }
 {
-    let scan = at.scan;
     let Finding::Holds = finding else {
         return Progress {
-            scan,
-            records: at.records,
             held: Held::Nothing,
             standing: Standing::Wrong { finding },
+            ..at
         };
     };
     Progress {
-        scan,
-        records: std::num::wrapping_add_u64(at.records, 1),
+        records: at.records.wrapping_add(1),
         held: Held::Nothing,
         standing: Standing::Right,
+        ..at
     }
 }
 
-// A word that is no number, on that line.
-fn stop(at: Progress, line: u64) -> Progress
-    ensures { result ≡ stuck at line }
+// A word that is no number, on the line that the scan has come to.
+fn stop(at: Progress) -> Progress
+    ensures { result ≡ stuck at at.scan.line }
 {
-    let scan = at.scan;
-    let held = at.held;
     Progress {
-        scan,
-        records: at.records,
-        held,
-        standing: Standing::NotANumber { line },
+        standing: Standing::NotANumber { line: at.scan.line },
+        ..at
     }
 }

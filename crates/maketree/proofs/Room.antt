@@ -6,8 +6,7 @@ use mathlib.Core.List.{List}
 use native.Mathlib.Omega.{arith}
 use lib.ListN.{length, drop, length-append}
 use Rattle.tree.specs.declared.Tree.{Tree}
-use Rattle.tree.specs.declared.Verdict.{Verdict}
-use Rattle.tree.specs.declared.Verdict.TheVariants.{Right, Refused}
+use Rattle.tree.specs.Verdicts.{Verdict, all_right, refused}
 use Rattle.file.specs.declared.Order.TheVariants.{Big}
 use Rattle.file.specs.declared.writer.Written.{Written}
 use Rattle.file.specs.Writing.{total_bytes, file_of, written_by, buffer_by, Writes}
@@ -19,7 +18,7 @@ pub written_within : {tree : Tree} {old new : List ℕ} {answer : Written} {n : 
 written_within {tree} {old} {new} {answer} {n} writes is = ends_within n new (by writes.verdict writes.answered writes.buffer)
   where
     by : (v : Verdict) → answer ≡ written_by tree v → new ≡ buffer_by tree old v → n ≤ length new
-    by Right answered buffer =
+    by all_right answered buffer =
         let count : n ≡ total_bytes tree = cc in
         omega (arith, count, ap length buffer, length-append (file_of tree) (drop (total_bytes tree) old), file_length tree Big)
-    by (Refused why class) answered buffer = absurd (let z : ◌≡◌ {A = ℕ} 0 1 = cc in omega arith)
+    by (refused why class) answered buffer = absurd (let z : ◌≡◌ {A = ℕ} 0 1 = cc in omega arith)

@@ -1,11 +1,10 @@
 -- The promise on a line replayed allows one result: two that it allows of the same state, line and buffer are equal. What the promises on the text and on the waiting bytes
 -- allow is one by `printed_one` of `print`.
 -- Assumes nothing.
+use Rattle.rules.specs.Kinds.{Arrival, Departure}
 use Rattle.std.proofs.Common.{◌≡◌, ℕ, Bool, true, false, List, None, Some, Ok, Err, sym, ap, ◌∙◌, subst}
 use Rattle.tree.specs.declared.Tree.{Tree}
-use Rattle.tree.specs.declared.Verdict.{Verdict}
-use Rattle.rules.specs.declared.Arrival.{Arrival}
-use Rattle.rules.specs.declared.Departure.{Departure}
+use Rattle.tree.specs.Verdicts.{Verdict}
 use Rattle.state.specs.State.{Reached}
 use Rattle.sched.proofs.One.{start_one, arrive_one, depart_one}
 use Rattle.calls.specs.declared.Call.TheVariants.{Start, Arrive, Depart}

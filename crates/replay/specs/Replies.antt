@@ -1,10 +1,9 @@
 -- What a line of a calls file is replied with, and what is printed of it, as docs/FORMS.md sets it down.
 -- Assumes nothing.
+use Rattle.rules.specs.Kinds.{Arrival, Departure}
 use Rattle.std.specs.Prelude.{◌≡◌, ℕ, ◌+◌, ◌%◌, ◌^◌, Bool, true, false, List, None, Some, Ok, Err}
 use Rattle.tree.specs.declared.Tree.{Tree}
-use Rattle.tree.specs.declared.Verdict.{Verdict}
-use Rattle.rules.specs.declared.Arrival.{Arrival}
-use Rattle.rules.specs.declared.Departure.{Departure}
+use Rattle.tree.specs.Verdicts.{Verdict}
 use Rattle.state.specs.Heads.{EveryHistory}
 use Rattle.sched.specs.Promises.{StartRight, ArriveRight, DepartRight}
 use Rattle.calls.specs.declared.Call.TheVariants.{Start, Arrive, Depart}

@@ -6,18 +6,17 @@ use Rattle.judgetext.proofs.judge_text.Goals as goal
 
 pub returns-then-not-is_right : goal.returns-then-not-is_right
 returns-then-not-is_right c =
-    let loop = c.loop-i in
-    record { right = λ h law shows. onward_stopped (loop.invariant.2 h law shows) (omega arith) (sym c.is_right.ensures ∙ c.if-not-is_right.true); reached = loop.invariant.0 }
+    let loop = c.loop-byte in
+    record { right = λ h law shows. onward_stopped (loop.invariant.1 h law shows) (omega arith) (sym c.is_right.ensures ∙ c.if-not-is_right.true); reached = loop.invariant.0 }
 
-pub loop-i-preserved : goal.loop-i-preserved
-loop-i-preserved c =
-    let loop = c.loop-i in (
+pub loop-byte-preserved : goal.loop-byte-preserved
+loop-byte-preserved c =
+    let loop = c.loop-byte in (
       c.read-here.ensures.reached,
-      omega arith,
-      λ h law shows. onward_next (loop.invariant.2 h law shows) (omega arith) (sym c.is_right.ensures ∙ c.if-not-is_right.false) c.read-here.ensures.right,
+      λ h law shows. onward_next (loop.invariant.1 h law shows) (omega arith) (sym c.is_right.ensures ∙ c.if-not-is_right.false) c.read-here.ensures.right,
     )
 
 pub returns : goal.returns
 returns c =
-    let loop = c.loop-i in
-    record { right = λ h law shows. onward_ended (loop.invariant.2 h law shows) (omega arith); reached = loop.invariant.0 }
+    let loop = c.loop-byte in
+    record { right = λ h law shows. onward_ended (loop.invariant.1 h law shows) (omega arith); reached = loop.invariant.0 }
