@@ -7,6 +7,7 @@ use crate::Curve;
 pub const KINDS: u32 = 4;
 
 // A kind and its numbers in the table's order, 0 where the kind has fewer.
+// Stays: a kind is a number here, as files and the words of hosts in C have it; `Curve` is the enum, and `try_from` makes it.
 #[derive(Clone, Copy, PartialEq, Eq)]
 pub struct Code {
     pub kind: u32,

@@ -22,6 +22,7 @@ use state::table::{
 
 // Of a class's children: whether one is active, without the one that turns active, with the smallest
 // and the largest of their virtual times; and the largest virtual time of all children.
+// Stays: as an `Option` of the two it was proved too, and took up to 9 percent more instructions (2,224 for 2,040 an arrival and departure, 63 leaves emptied).
 #[derive(Clone, Copy, PartialEq, Eq)]
 pub struct Spread {
     pub any: bool,

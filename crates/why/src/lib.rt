@@ -66,6 +66,7 @@ fn leaves(words: &Words) -> usize
 {
     let count = header(words, COUNT) as usize;
     let mut lines = 0;
+    // Stays: as `filter` and `count` over the range its proof did not close: what `get` requires of a class is no `requires` of this function's own.
     for i in 0..count {
         if get(words, i, CHILD) == 0 {
             lines += 1;
