@@ -9,7 +9,7 @@ use mathlib.Core.List.{List}
 use Rattle.curve.specs.Curves.{RightCurve}
 use Rattle.curve.specs.Fit.{CurvesFit}
 use Rattle.curve.specs.Keeping.{early}
-use Rattle.curve.specs.Promises.{TellsRight, TellsFit, Encodes, Decodes, TellsUndelayed, LowerPiece, ArrivesAt, KeptAfter, DueAt, EligibleAt}
+use Rattle.curve.specs.Promises.{TellsRight, TellsFit, Encodes, Decodes, Converts, TellsUndelayed, LowerPiece, ArrivesAt, KeptAfter, DueAt, EligibleAt}
 use Rattle.curve.specs.declared.Curve.{Curve}
 use Rattle.curve.specs.declared.Piece.{Piece}
 use Rattle.curve.specs.declared.Kept.{Kept}
@@ -28,17 +28,20 @@ fits_one Ss r s = exactly_one r s (CurvesFit Ss)
 pub encode_one : (S : Curve) (r s : Code) → Encodes S r → Encodes S s → r ≡ s
 encode_one S r s h k = h ∙ sym k
 
-pub decode_one : (c : Code) (r s : Result Curve UnknownKind) → Decodes c r → Decodes c s → r ≡ s
-decode_one c (Ok S) (Ok S') h k = ap Ok (h.1 ∙ sym k.1)
-decode_one c (Ok S) (Err e) h k = absurd (omega arith)
-decode_one c (Err e) (Ok S) h k = absurd (omega arith)
-decode_one c (Err e) (Err e') h k = refl
+pub decode_one : (kind x y z : ℕ) (r s : Curve) → Decodes kind x y z r → Decodes kind x y z s → r ≡ s
+decode_one kind x y z r s h k = h ∙ sym k
 
--- and what is encoded decodes as the same curve
-pub decoded_back : (S : Curve) (c : Code) (r : Result Curve UnknownKind) → Encodes S c → Decodes c r → r ≡ Ok S
+pub converts_one : (c : Code) (r s : Result Curve UnknownKind) → Converts c r → Converts c s → r ≡ s
+converts_one c (Ok S) (Ok S') h k = ap Ok (h.1 ∙ sym k.1)
+converts_one c (Ok S) (Err e) h k = absurd (omega arith)
+converts_one c (Err e) (Ok S) h k = absurd (omega arith)
+converts_one c (Err e) (Err e') h k = refl
+
+-- and what is encoded converts back to the same curve
+pub decoded_back : (S : Curve) (c : Code) (r : Result Curve UnknownKind) → Encodes S c → Converts c r → r ≡ Ok S
 decoded_back S c r h k =
-    let said : Decodes c (Ok S) = rw h (rw (code_kind S) (kind_known S), sym (said_code S)) in
-    decode_one c r (Ok S) k said
+    let said : Converts c (Ok S) = rw h (rw (code_kind S) (kind_known S), sym (said_code S)) in
+    converts_one c r (Ok S) k said
 
 pub is_undelayed_one : (S : Curve) (r s : Bool) → TellsUndelayed S r → TellsUndelayed S s → r ≡ s
 is_undelayed_one S r s = exactly_one r s (early S ≡ S)

@@ -2,7 +2,7 @@
 -- Assumes nothing.
 use Rattle.std.specs.Prelude.{ℕ, ◌≤◌, ◌<◌, Bool, List, ◌≡◌, Result, Ok, Err}
 use Rattle.curve.specs.Answers.{Least, Exactly}
-use Rattle.curve.specs.Codec.{kinds, code_of, curve_said}
+use Rattle.curve.specs.Codec.{kinds, code_of, kind_curve, curve_said}
 use Rattle.curve.specs.Curves.{RightCurve}
 use Rattle.curve.specs.Fit.{CurvesFit}
 use Rattle.curve.specs.Keeping.{lower_of, kept_with, Stands, BothStand, early}
@@ -24,10 +24,14 @@ TellsFit Ss r = Exactly r (CurvesFit Ss)
 abbrev pub Encodes : Curve → Code → Type 0
 Encodes S r = r ≡ code_of S
 
+-- `decode`: the curve of a kind and three numbers
+abbrev pub Decodes : ℕ → ℕ → ℕ → ℕ → Curve → Type 0
+Decodes kind x y z r = r ≡ kind_curve kind x y z
+
 -- `Curve::try_from`: the curve of a kind of the table and three numbers, or that the table has no such kind
-abbrev pub Decodes : Code → Result Curve UnknownKind → Type 0
-Decodes c (Ok S) = (c.kind < kinds) × (S ≡ curve_said c)
-Decodes c (Err e) = kinds ≤ c.kind
+abbrev pub Converts : Code → Result Curve UnknownKind → Type 0
+Converts c (Ok S) = (c.kind < kinds) × (S ≡ curve_said c)
+Converts c (Err e) = kinds ≤ c.kind
 
 -- `is_undelayed`: true exactly if the eligible time goes by the curve as it is
 abbrev pub TellsUndelayed : Curve → Bool → Type 0

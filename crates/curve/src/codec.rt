@@ -1,5 +1,5 @@
 // A curve's kind and its numbers, by the table of kinds, and back.
-ghost use Rattle.curve.specs.Promises.{Encodes, Decodes};
+ghost use Rattle.curve.specs.Promises.{Encodes, Converts, Decodes};
 
 use crate::Curve;
 
@@ -44,7 +44,7 @@ impl From<Curve> for Code {
 impl TryFrom<Code> for Curve {
     type Error = UnknownKind;
 
-    ghost try_from_gives = { Decodes };
+    ghost try_from_gives = { Converts };
 
     // The curve of a kind with its numbers; a kind that has fewer leaves the others unread.
     #[tactic(auto, unfolding(crate::specs::Codec::kind_curve))]
@@ -64,4 +64,17 @@ impl TryFrom<Code> for Curve {
             _ => Err(UnknownKind),
         }
     }
+}
+
+// The curve of a kind with its numbers; none where the kind is unknown.
+pub fn decode(kind: u32, first: u32, second: u32, third: u32) -> Curve
+    ensures { Decodes kind first second third result }
+{
+    let code = Code {
+        kind,
+        first,
+        second,
+        third,
+    };
+    Curve::try_from(code).unwrap_or(Curve::None)
 }

@@ -12,7 +12,7 @@ use crate::table::{
     DEADLINE, ELIGIBLE, FIRST, FLAT_SENT, FLAT_START, KIND, SECOND, SENT_REAL_TIME, STEEP_SENT,
     STEEP_START, THIRD, Words, get, put,
 };
-use curve::codec::Code;
+use curve::codec::decode;
 use curve::{Curve, Kept, Piece};
 use rules::{Rule, Times};
 
@@ -21,13 +21,11 @@ fn curve_of(words: &Words, class: usize) -> Curve
     requires { (class < CLASSES) × NarrowCode words.now class }
     ensures { result ≡ curve_in words.now class }
 {
-    let code = Code {
-        kind: get(words, class, KIND) as u32,
-        first: get(words, class, FIRST) as u32,
-        second: get(words, class, SECOND) as u32,
-        third: get(words, class, THIRD) as u32,
-    };
-    Curve::try_from(code).unwrap_or(Curve::None)
+    let kind = get(words, class, KIND) as u32;
+    let first = get(words, class, FIRST) as u32;
+    let second = get(words, class, SECOND) as u32;
+    let third = get(words, class, THIRD) as u32;
+    decode(kind, first, second, third)
 }
 
 // The pieces kept of the leaf's history.

@@ -9,7 +9,7 @@ use lib.ListN.{length, take}
 use Rattle.std.specs.Prelude.{Result, Ok, Err}
 use Rattle.std.specs.Result.{result_unwrap_or}
 use Rattle.curve.specs.Codec.{curve_kind, curve_numbers, code_of, kind_curve, curve_said, kinds}
-use Rattle.curve.specs.Promises.{Decodes}
+use Rattle.curve.specs.Promises.{Converts}
 use Rattle.curve.specs.declared.Curve.{Curve}
 use Rattle.curve.specs.declared.Curve.TheVariants.{None, Straight, FrontLoaded, Delayed}
 use Rattle.curve.specs.declared.codec.Code.{Code}
@@ -79,6 +79,6 @@ no_curve (suc (suc (suc zero))) x y z h₁ h₂ h₃ = absurd (h₃ refl)
 no_curve (suc (suc (suc (suc kind)))) x y z h₁ h₂ h₃ = refl
 
 -- the curve that a code says, and none where its kind is unknown
-pub said_or_none : (c : Code) (r : Result Curve UnknownKind) → Decodes c r → result_unwrap_or r None ≡ curve_said c
+pub said_or_none : (c : Code) (r : Result Curve UnknownKind) → Converts c r → result_unwrap_or r None ≡ curve_said c
 said_or_none c (Ok S) h = h.1
 said_or_none c (Err e) h = no_curve _ _ _ _ (λ e. omega arith) (λ e. omega arith) (λ e. omega arith)

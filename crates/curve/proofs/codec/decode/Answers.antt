@@ -1,7 +1,7 @@
--- `state::leaf::curve_of` meets its contract: the code of the class's columns says its curve.
+-- `curve::codec::decode` meets its contract: the code of the four numbers says the curve.
 -- Assumes nothing.
 use Rattle.curve.proofs.Laws.Codec.{said_or_none}
-use Rattle.state.proofs.leaf.curve_of.Goals as goal
+use Rattle.curve.proofs.codec.decode.Goals as goal
 
 pub returns : goal.returns
 returns c = cc (said_or_none _ _ c.try_from.ensures)
