@@ -21,6 +21,7 @@ pub(crate) fn entry_at(class: u32) -> usize
 }
 
 // The bytes of a body of a kind; of an unknown kind, none.
+// Stays: a kind is a word of the file here, known or not, and `body_bytes` of Format is by that number; the enum is `Curve`.
 pub(crate) fn body_bytes(kind: u32) -> u32
     ensures { result ≡ body_bytes kind }
 {

@@ -44,10 +44,6 @@ module _ (order : Order) where
     unfolding bytes_of
     no_word = refl
 
-    -- the first word
-    pub first_word : (w : ℕ) (out : List ℕ) → out ≡ sets l at (word_bytes order w) → out ≡ sets l at (bytes_of order (w ∷ []))
-    first_word w out after = after ∙ ap (sets l at) (sym (one_word w))
-
     -- after the words `xs`, the words `ys`
     pub words_on : (xs ys : List ℕ) (out out' : List ℕ) (end : ℕ)
         → end ≡ at + 4 * length xs → out ≡ sets l at (bytes_of order xs) → out' ≡ sets out end (bytes_of order ys)

@@ -24,6 +24,7 @@ impl Entry {
 }
 
 // A reader: the lent file, its byte order, and the place of the next entry of the contents.
+// Stays: no Iterator, since the contents are as long as the count says, which the loops have, and `next` would have to say so too.
 #[derive(Clone, Copy)]
 pub(crate) struct Reader<'a> {
     pub(crate) file: &'a [u8],

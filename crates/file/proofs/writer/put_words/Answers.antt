@@ -6,7 +6,7 @@ use mathlib.Core.List.{List}
 use native.Mathlib.Numerals.{add-one}
 use native.Mathlib.Omega.{arith}
 use lib.ListN.{take, get_or}
-use lib.Seq.{sets, take-suc, length-take-le, take_all}
+use lib.Seq.{sets, take-suc, length-take-le}
 use Rattle.file.specs.declared.Order.TheVariants.{Big}
 use Rattle.file.specs.Writing.{bytes_of}
 use Rattle.file.proofs.WriteLaws.Words.{no_word, word_on}
@@ -22,6 +22,3 @@ loop-k-preserved c =
     let k = c.loop-k.k in
     word_on Big a.out.now a.at (take k words) (get_or words k 0) _ _ (a.at + 4 * k) (omega (arith, length-take-le k words (omega arith))) c.loop-k.invariant c.put_word.ensures
     ∙ ap (λ (ws : List ℕ). sets a.out.now a.at (bytes_of Big ws)) (sym (take-suc words k 0 (omega arith)) ∙ ap (λ (n : ℕ). take n words) (sym (add-one k)))
-
-pub returns : goal.returns
-returns c = c.loop-k.invariant ∙ ap (λ (ws : List ℕ). sets c.args.out.now c.args.at (bytes_of Big ws)) (take_all c.loop-k.k c.args.words.now (omega arith))

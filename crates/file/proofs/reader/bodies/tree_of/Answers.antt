@@ -39,12 +39,6 @@ loop-class-init c = record {
   classes = ap (λ (t : Tree). t.classes) c.empty-tree.ensures;
 }
 
-pub next_entry-entry-requires : goal.next_entry-entry-requires
-next_entry-entry-requires c =
-    let here = c.loop-class.invariant.stands in
-    let p = c.requires.opened in
-    omega (arith, ap length here.lent, here.place, p.counted, p.right.contents)
-
 pub class_of-requires : goal.class_of-requires
 class_of-requires c =
     let e = (goal.at.class_of-requires c).After-next_entry-entry in

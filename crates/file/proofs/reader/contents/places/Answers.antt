@@ -1,15 +1,13 @@
 -- The entries are walked one after another: those passed all fit, and the next has to start where the last one passed ends.
 -- Assumes nothing.
-use Prim.Native.Nat.{ℕ, ◌+◌}
+use Prim.Native.Nat.{ℕ}
 use mathlib.Core.Path.{◌≡◌, refl, ◌∙◌, sym, ap, subst}
 use mathlib.Core.List.{List}
 use native.Mathlib.Omega.{arith}
 use borrow.Author.Count.{below_more}
-use lib.ListN.{length}
 use Rattle.tree.specs.Rules.{EveryClass}
 use Rattle.file.specs.Format.{count_of, total_of, entry_at, start_of}
 use Rattle.file.specs.Steps.{Fitting}
-use Rattle.file.proofs.ReadLaws.Fronts.{hand_long}
 use Rattle.file.proofs.ReadLaws.Places.{FitsAt, EntryIs, entry_is, goes_on, fitting_as, misplaced, wrong_end, all_placed, start_next}
 use Rattle.file.proofs.reader.contents.places.Goals as goal
 use Rattle.file.proofs.reader.contents.places.Goals.{After-loop-class, After-next_entry-entry}
@@ -59,17 +57,6 @@ loop-class-init c = record {
   next = c.entry_at-start.ensures ∙ ap entry_at c.requires.opened.1.counted;
   fit = λ k h. absurd (omega arith);
 }
-
-pub next_entry-entry-requires : goal.next_entry-entry-requires
-next_entry-entry-requires c =
-    let here = c.loop-class.invariant.stands in
-    let p = c.requires.opened in
-    omega (
-      arith,
-      ap length here.lent,
-      here.place,
-      hand_long _ _ (entry_at (c.loop-class.class + 1)) p.0 (omega (arith, p.1.counted, p.1.right.contents)) (omega (arith, p.1.counted, p.1.within.below)),
-    )
 
 pub returns-then-not-fitting : goal.returns-then-not-fitting
 returns-then-not-fitting c =
