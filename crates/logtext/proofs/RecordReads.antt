@@ -5,7 +5,8 @@ use Rattle.wording.specs.Letters.{space, line_feed}
 use Rattle.wording.specs.Words.{is_plain, every, Plain}
 use Rattle.wording.specs.Decimal.{decimal}
 use Rattle.wording.specs.Numbers.{is_digit, number_of}
-use Rattle.wording.proofs.Plain.{both, decimal_plain}
+use Rattle.std.proofs.lemmas.Bool.{and_parts}
+use Rattle.wording.proofs.Plain.{decimal_plain}
 use Rattle.wording.proofs.Decimals.{decimal_some}
 use Rattle.wording.proofs.ReadBack.{decimal_reads}
 use Rattle.logtext.specs.declared.Kind.TheVariants.{Digit, Other}
@@ -31,7 +32,7 @@ over_word_lem : (line : ℕ) (scan : Scan) (word : List ℕ) → Plain word → 
 unfolding scan_over
 over_word_lem line scan [] h on = on
 over_word_lem line scan (b ∷ s) h on =
-    let (plain, others) = both (is_plain b) (every is_plain s) h in
+    let (plain, others) = and_parts (is_plain b) (every is_plain s) h in
     over_word_lem line (stepped scan b) s others (rw (on.leads b, plain_kind b plain) (still line on.n (b - 48) (is_digit b)))
 
 -- a number and the byte after it, where that leads the same way after any number

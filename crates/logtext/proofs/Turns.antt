@@ -2,7 +2,7 @@
 -- Assumes nothing.
 use Rattle.std.proofs.Common.{◌≡◌, ℕ, Bool, true, ◌&&◌, List, [], ◌∷◌, ◌++◌, None, Some, Ok, Err, sym, refl, ap, ◌∙◌}
 use mathlib.Core.Bool.{and_assoc, false≢true}
-use Rattle.wording.proofs.Plain.{both}
+use Rattle.std.proofs.lemmas.Bool.{and_parts}
 use Rattle.logtext.specs.declared.Scan.{Scan}
 use Rattle.logtext.specs.Scans.{Seen, seen_at, stepped}
 use Rattle.logtext.specs.Texts.{with_seen, is_no_error, numbers_of, scan_over, is_well}
@@ -30,7 +30,7 @@ numbers_turns : (scan : Scan) (a b : List ℕ) → is_well scan a ≡ true → n
 unfolding is_well scan_over numbers_of
 numbers_turns scan [] b h = refl
 numbers_turns scan (x ∷ a) b h =
-    let (right, others) = both (is_no_error (seen_at scan x)) (is_well (stepped scan x) a) h in
+    let (right, others) = and_parts (is_no_error (seen_at scan x)) (is_well (stepped scan x) a) h in
     shown_more (seen_at scan x) _ _ _ right (numbers_turns (stepped scan x) a b others)
 
 pub in_turns : InTurns

@@ -4,7 +4,7 @@ use Rattle.std.proofs.Common.{◌≡◌, ℕ, ◌+◌, ◌-◌, ◌*◌, Bool, t
 use mathlib.Core.Bool.{and-true}
 use Rattle.wording.specs.Words.{is_plain, every, Plain}
 use Rattle.wording.specs.Numbers.{Operand, only_if, is_digit, number_from, number_of}
-use Rattle.wording.proofs.Plain.{both}
+use Rattle.std.proofs.lemmas.Bool.{and_parts}
 use Rattle.wording.proofs.Digits.{number_capped}
 use Rattle.logtext.specs.declared.Kind.TheVariants.{Digit, Other}
 use Rattle.logtext.specs.declared.Scan.{Scan}
@@ -62,12 +62,12 @@ digits_read : (line end : ℕ) → is_plain end ≡ false → (n : ℕ) (s : Lis
 unfolding number_from seen_at
 digits_read line end ends n [] h = shows_last (ends_number end n ends)
 digits_read line end ends n (b ∷ s) h =
-    let (plain, others) = both (is_plain b) (every is_plain s) h in
+    let (plain, others) = and_parts (is_plain b) (every is_plain s) h in
     byte_reads line n (in_number line n) (in_number_lem line n) b s (s ++ (end ∷ [])) plain (digits_read line end ends (longer n (b - 48)) s others)
 
 pub word_reads : WordReads
 unfolding number_of
 word_reads line [] end h some ends = absurd (omega arith)
 word_reads line (b ∷ s) end h some ends =
-    let (plain, others) = both (is_plain b) (every is_plain s) h in
+    let (plain, others) = and_parts (is_plain b) (every is_plain s) h in
     byte_reads line 0 (between line) (at_start line) b s (s ++ (end ∷ [])) plain (digits_read line end ends (longer 0 (b - 48)) s others)

@@ -41,9 +41,8 @@ fn text_file(rt: &(impl Env + Files + Print + Eprint), name: &[u8]) -> Status {
     }
     let n = got.bytes;
     let draft = treetext::read(&bytes[..n]);
-    let fault = draft.fault;
-    match fault {
-        Fault::At { line, wrong } => {
+    match draft.fault {
+        Some(Fault { line, wrong }) => {
             let _ = console::say(
                 rt,
                 Answer::Faulty {
@@ -53,7 +52,7 @@ fn text_file(rt: &(impl Env + Files + Print + Eprint), name: &[u8]) -> Status {
             );
             Status::Failed
         }
-        Fault::Nowhere => tree_file(rt, draft.tree),
+        None => tree_file(rt, draft.tree),
     }
 }
 

@@ -18,12 +18,11 @@ use Rattle.print.specs.declared.Answer.TheVariants as answer
 use Rattle.print.specs.Spelled.{class_word, parent_word, share_word, none_word, straight_word, front_loaded_word, delayed_word}
 use Rattle.print.specs.Lines.{words_of, words_of_curve, line_of}
 use Rattle.treetext.specs.declared.Entry.TheVariants.{ClassOf}
-use Rattle.treetext.specs.declared.Form.TheVariants.{Right}
-use Rattle.treetext.specs.declared.Curved.{Curved}
+use Rattle.std.specs.Prelude.{Some, Ok}
 use Rattle.treetext.specs.Entries.{none_in, straight_in, front_loaded_in, delayed_in, curve_in, class_of, class_in, entry_of}
 use Rattle.wording.specs.Words.{is_inner}
 use Rattle.treetext.specs.Theorems.{NarrowCurve, NarrowClass, ClassLineSays}
-use Rattle.treetext.proofs.Named.{entry_class}
+use Rattle.treetext.proofs.Named.{entry_by}
 use Rattle.treetext.proofs.Spaced.{Word, Words, decimal_word, spaced, further_spaced, spaced_every, first_front, after_front, first_next, after_next, first_end, number_next, number_last, number_labelled}
 
 -- each word of a line is plain
@@ -59,10 +58,7 @@ class_words number class =
     (decimal_word number, (parent_word_lem, (decimal_word class.parent, (share_word_lem, (decimal_word class.share, curve_words class.curve)))))
 
 -- the words of a curve say that curve
-abbrev rightly : Curve → Curved
-rightly curve = record { form = Right; curve = curve }
-
-curve_says : (curve : Curve) → NarrowCurve curve → curve_in (spaced (words_of_curve curve)) ≡ rightly curve
+curve_says : (curve : Curve) → NarrowCurve curve → curve_in (spaced (words_of_curve curve)) ≡ Ok curve
 unfolding curve_in none_in straight_in front_loaded_in delayed_in same
 curve_says None h = rw (first_next none_word [] none_word_lem, after_next none_word [] none_word_lem, first_end)
 curve_says (Straight rate) h =
@@ -99,7 +95,7 @@ module _ (number : ℕ) (class : Class) (narrow : NarrowClass number class) wher
   abbrev others : List (List ℕ)
   others = parent_word ∷ second
 
-  class_says : class_in (spaced (decimal number ∷ others)) ≡ ClassOf number class
+  class_says : class_in (spaced (decimal number ∷ others)) ≡ Ok (Some (ClassOf number class))
   unfolding class_in class_of
   class_says =
       rw (
@@ -130,16 +126,13 @@ module _ (number : ℕ) (class : Class) where
   unfolding line_of
   line_ended = rw (further_spaced (words_of (answer.ClassOf number class)), append_assoc class_word (spaced (words_of (answer.ClassOf number class))) (line_feed ∷ []))
 
-  pub line_says : NarrowClass number class → entry_of (class_line number class) ≡ ClassOf number class
+  pub line_says : NarrowClass number class → entry_of (class_line number class) ≡ Ok (Some (ClassOf number class))
   unfolding entry_of same
   line_says narrow =
       let words = words_of (answer.ClassOf number class) in
       let name : first (class_line number class) ≡ class_word = first_front class_word words class_word_lem in
-      let some : length (first (class_line number class)) ≡ 0 → ⊥ = λ z. absurd (omega (arith, ap length name)) in
-      rw (uncommented_all (class_line number class) line_text)
-      (sym (entry_class (class_line number class) some (rw name) (rw name))
-      ∙ ap class_in (after_front class_word words class_word_lem)
-      ∙ class_says number class narrow)
+      rw (uncommented_all (class_line number class) line_text, entry_by (class_line number class), name)
+      (ap class_in (after_front class_word words class_word_lem) ∙ class_says number class narrow)
 
 -- texts with the same last byte are equal before it
 before_last : (s t : List ℕ) (b : ℕ) → s ++ (b ∷ []) ≡ t ++ (b ∷ []) → s ≡ t

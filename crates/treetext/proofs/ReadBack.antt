@@ -21,7 +21,7 @@ use Rattle.tree.specs.Trees.{most_classes, no_class, class_at, empty_tree}
 use Rattle.tree.specs.Rules.{RightClass}
 use Rattle.print.specs.declared.Answer.TheVariants as answer
 use Rattle.print.specs.Lines.{further, line_of, class_lines, tree_text}
-use Rattle.treetext.specs.declared.Fault.TheVariants.{Nowhere}
+use Rattle.std.specs.declared.option.Option.TheVariants as option
 use Rattle.treetext.specs.declared.Draft.{Draft}
 use Rattle.treetext.specs.Entries.{head_in, entry_in, entry_of}
 use Rattle.treetext.specs.Texts.{lines_of, blank_draft, opened, grown, is_done, with_line, with_lines, tree_in}
@@ -64,7 +64,7 @@ narrow_class class (suc i) small h = record {
 -- a draft that has the classes of t below i, and no wrong line
 record Going (t : Tree) (i : ℕ) (d : Draft) : Type 0 where
   going_headed : d.headed ≡ true
-  going_fault : d.fault ≡ Nowhere
+  going_fault : d.fault ≡ option.None
   going_count : d.tree.count ≡ i
   going_room : length d.tree.classes ≡ most_classes
   going_classes : (j : ℕ) → j < i → class_at d.tree j ≡ class_at t j

@@ -7,7 +7,7 @@ use mathlib.Core.List.{List, [], ◌∷◌, ◌++◌, append_assoc}
 use lib.ListN.{length}
 use borrow.Author.Tests.{lt-ltb}
 use Rattle.wording.specs.Letters.{space, line_feed}
-use Rattle.wording.specs.declared.Operand.TheVariants.{Of}
+use Rattle.std.specs.Prelude.{Ok}
 use Rattle.wording.specs.Words.{span, first, after}
 use Rattle.wording.specs.Numbers.{number_of, only_in}
 use Rattle.wording.specs.Decimal.{decimal}
@@ -76,16 +76,16 @@ first_end = first_none
 
 -- a number of 32 bits among them
 module _ (n : ℕ) (narrow : n < 2 ^ 32) where
-  number_says : number_of (decimal n) ≡ Of n
+  number_says : number_of (decimal n) ≡ Ok n
   number_says = decimal_reads n ∙ rw (lt-ltb n (2 ^ 32) narrow)
 
-  pub number_next : (others : List (List ℕ)) → number_of (first (spaced (decimal n ∷ others))) ≡ Of n
+  pub number_next : (others : List (List ℕ)) → number_of (first (spaced (decimal n ∷ others))) ≡ Ok n
   number_next others = rw (first_next (decimal n) others (decimal_word n)) number_says
 
-  pub number_last : only_in (spaced (decimal n ∷ [])) ≡ Of n
+  pub number_last : only_in (spaced (decimal n ∷ [])) ≡ Ok n
   unfolding only_in
   number_last = rw (after_next (decimal n) [] (decimal_word n), first_end) (number_next [])
 
-  pub number_labelled : (name : List ℕ) (others : List (List ℕ)) → Word name → labelled (spaced (name ∷ decimal n ∷ others)) name ≡ Of n
+  pub number_labelled : (name : List ℕ) (others : List (List ℕ)) → Word name → labelled (spaced (name ∷ decimal n ∷ others)) name ≡ Ok n
   unfolding labelled
   number_labelled name others good = rw (first_next name (decimal n ∷ others) good, equal_same name, after_next name (decimal n ∷ others) good) (number_next others)

@@ -11,9 +11,10 @@ use lib.Seq.{drop-drop}
 use Rattle.wording.specs.Letters.{line_feed}
 use Rattle.wording.specs.Words.{is_inner, span}
 use Rattle.treetext.specs.declared.Draft.{Draft}
-use Rattle.treetext.specs.declared.Entry.{Entry}
-use Rattle.treetext.specs.declared.Entry.TheVariants.{Nothing, Head, ClassOf, TooLarge, NotAClass}
-use Rattle.treetext.specs.Entries.{entry_of}
+use Rattle.std.specs.Prelude.{None, Some, Ok, Err}
+use Rattle.treetext.specs.declared.Entry.TheVariants.{Head, ClassOf}
+use Rattle.treetext.specs.declared.EntryError.TheVariants.{TooLarge, NotAClass}
+use Rattle.treetext.specs.Entries.{Said, entry_of}
 use Rattle.treetext.specs.Texts.{onto, lines_of, is_done, with_entry, with_line, with_lines}
 
 -- the first line ends before the first end of a line, and the others come after that
@@ -61,13 +62,13 @@ either : (t : Bool) (d e : Draft) (n : ℕ) → d.lines ≤ n → e.lines ≤ n 
 either true d e n h g = h
 either false d e n h g = g
 
-entry_lines : (d : Draft) (s : Entry) → (with_entry d s).lines ≤ d.lines + 1
-entry_lines d Nothing = omega arith
-entry_lines d Head = either d.headed _ _ (d.lines + 1) (omega arith) (omega arith)
-entry_lines d (ClassOf number class) =
+entry_lines : (d : Draft) (s : Said) → (with_entry d s).lines ≤ d.lines + 1
+entry_lines d (Ok None) = omega arith
+entry_lines d (Ok (Some Head)) = either d.headed _ _ (d.lines + 1) (omega arith) (omega arith)
+entry_lines d (Ok (Some (ClassOf number class))) =
     either d.headed _ _ (d.lines + 1) (either (eqb number d.tree.count) _ _ (d.lines + 1) (omega arith) (omega arith)) (omega arith)
-entry_lines d TooLarge = omega arith
-entry_lines d NotAClass = omega arith
+entry_lines d (Err TooLarge) = omega arith
+entry_lines d (Err NotAClass) = omega arith
 
 pub line_more : (d : Draft) (line : List ℕ) → (with_line d line).lines ≤ d.lines + 1
 unfolding with_line

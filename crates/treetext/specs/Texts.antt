@@ -1,18 +1,17 @@
 -- The tree that a text is, or the first line of it that is wrong, as docs/FORMS.md sets it down.
 -- Assumes nothing.
-use Rattle.std.specs.Prelude.{ℕ, ◌+◌, Bool, true, false, cond, ◌||◌, List, [], ◌∷◌, set, ltb, eqb}
+use Rattle.std.specs.Prelude.{ℕ, ◌+◌, Bool, true, false, cond, ◌||◌, List, [], ◌∷◌, Option, None, Some, Ok, Err, set, ltb, eqb}
 use Rattle.wording.specs.Letters.{line_feed}
 use Rattle.tree.specs.declared.Class.{Class}
 use Rattle.tree.specs.declared.Tree.{Tree}
 use Rattle.tree.specs.Trees.{most_classes, empty_tree}
 use Rattle.print.specs.declared.Wrong.{Wrong}
 use Rattle.print.specs.declared.Wrong.TheVariants as wrong
-use Rattle.treetext.specs.declared.Entry.{Entry}
-use Rattle.treetext.specs.declared.Entry.TheVariants.{Nothing, Head, ClassOf, TooLarge, NotAClass}
+use Rattle.treetext.specs.declared.Entry.TheVariants.{Head, ClassOf}
+use Rattle.treetext.specs.declared.EntryError.TheVariants.{TooLarge, NotAClass}
 use Rattle.treetext.specs.declared.Fault.{Fault}
-use Rattle.treetext.specs.declared.Fault.TheVariants.{Nowhere, At}
 use Rattle.treetext.specs.declared.Draft.{Draft}
-use Rattle.treetext.specs.Entries.{entry_of}
+use Rattle.treetext.specs.Entries.{Said, entry_of}
 
 -- a byte at the front of the first line
 abbrev pub onto : ℕ → List (List ℕ) → List (List ℕ)
@@ -26,18 +25,18 @@ lines_of (b ∷ s) = cond (eqb b line_feed) ([] ∷ lines_of s) (onto b (lines_o
 
 -- before the first line
 abbrev pub blank_draft : Draft
-blank_draft = record { lines = 0; headed = false; fault = Nowhere; tree = empty_tree }
+blank_draft = record { lines = 0; headed = false; fault = None; tree = empty_tree }
 
 -- the next line says nothing, or it is wrong
 abbrev pub passed : Draft → Draft
-passed d = record { lines = d.lines + 1; headed = d.headed; fault = Nowhere; tree = d.tree }
+passed d = record { lines = d.lines + 1; headed = d.headed; fault = None; tree = d.tree }
 
 abbrev pub faulty : Draft → Wrong → Draft
-faulty d why = record { lines = d.lines + 1; headed = d.headed; fault = At (d.lines + 1) why; tree = d.tree }
+faulty d why = record { lines = d.lines + 1; headed = d.headed; fault = Some (record { line = d.lines + 1; wrong = why }); tree = d.tree }
 
 -- it is `tree`, which comes once
 abbrev pub opened : Draft → Draft
-opened d = record { lines = d.lines + 1; headed = true; fault = Nowhere; tree = d.tree }
+opened d = record { lines = d.lines + 1; headed = true; fault = None; tree = d.tree }
 
 abbrev pub with_head : Draft → Draft
 with_head d = cond d.headed (faulty d wrong.NotAClass) (opened d)
@@ -47,7 +46,7 @@ abbrev pub with_class : Tree → Class → Tree
 with_class t class = record { count = t.count + 1; classes = set t.classes t.count class }
 
 abbrev pub grown : Draft → Class → Draft
-grown d class = record { lines = d.lines + 1; headed = true; fault = Nowhere; tree = with_class d.tree class }
+grown d class = record { lines = d.lines + 1; headed = true; fault = None; tree = with_class d.tree class }
 
 -- "`tree` comes first", and then "classes in number order from 0"
 abbrev pub classed : Draft → ℕ → Class → Draft
@@ -55,17 +54,17 @@ classed d number class =
     cond d.headed (cond (eqb number d.tree.count) (grown d class) (faulty d (wrong.NextClass d.tree.count))) (faulty d wrong.TreeFirst)
 
 -- a draft after what the next line says
-abbrev pub with_entry : Draft → Entry → Draft
-with_entry d Nothing = passed d
-with_entry d Head = with_head d
-with_entry d (ClassOf number class) = classed d number class
-with_entry d TooLarge = faulty d wrong.TooLarge
-with_entry d NotAClass = faulty d wrong.NotAClass
+abbrev pub with_entry : Draft → Said → Draft
+with_entry d (Ok None) = passed d
+with_entry d (Ok (Some Head)) = with_head d
+with_entry d (Ok (Some (ClassOf number class))) = classed d number class
+with_entry d (Err TooLarge) = faulty d wrong.TooLarge
+with_entry d (Err NotAClass) = faulty d wrong.NotAClass
 
 -- nothing more is read after a wrong line, nor after a class more than the most
-abbrev pub is_faulty : Fault → Bool
-is_faulty Nowhere = false
-is_faulty (At line why) = true
+abbrev pub is_faulty : Option Fault → Bool
+is_faulty None = false
+is_faulty (Some fault) = true
 
 unfoldable pub is_done : Draft → Bool
 is_done d = is_faulty d.fault || ltb most_classes d.tree.count

@@ -4,12 +4,13 @@ use Prim.Native.Nat.{ℕ, ◌+◌, ◌/◌, ◌%◌, ◌<◌}
 use native.Mathlib.Nat.{mod-lt}
 use native.Mathlib.Omega.{arith}
 use mathlib.Core.Path.{◌≡◌, refl, ◌∙◌}
-use mathlib.Core.Bool.{Bool, true, false, not, ◌&&◌}
+use mathlib.Core.Bool.{Bool, true, not, ◌&&◌}
 use mathlib.Core.List.{List, [], ◌∷◌, ◌++◌, append-nil}
 use lib.Dec.{eqb}
 use lib.ListN.{length}
 use lib.Seq.{take-length, take-append_seam, drop-append_seam}
 use borrow.Author.Tests.{ne_eqb, not-true}
+use Rattle.std.proofs.lemmas.Bool.{and_parts}
 use Rattle.wording.specs.Letters.{space, line_feed}
 use Rattle.wording.specs.Words.{is_blank, span, uncommented, begun, first, after}
 pub use Rattle.wording.specs.Words.{every, is_plain, is_dark, is_text, Plain}
@@ -18,21 +19,19 @@ use Rattle.wording.proofs.Decimals.{decimal_small, decimal_more, by_digits}
 
 -- both tests hold where their conjunction does
 pub both : (t u : Bool) → (t && u) ≡ true → (t ≡ true) × (u ≡ true)
-both true true e = (refl, refl)
-both true false e = (refl, e)
-both false u e = (e, cc)
+both = and_parts
 
 pub every_append : (meant : ℕ → Bool) (s t : List ℕ) → every meant s ≡ true → every meant t ≡ true → every meant (s ++ t) ≡ true
 every_append meant [] t h g = g
 every_append meant (b ∷ s) t h g =
-    let (one, others) = both (meant b) (every meant s) h in
+    let (one, others) = and_parts (meant b) (every meant s) h in
     rw (one, every_append meant s t others g)
 
 -- a byte of one kind is of the other
 pub every_so : (meant other : ℕ → Bool) → ((b : ℕ) → meant b ≡ true → other b ≡ true) → (s : List ℕ) → every meant s ≡ true → every other s ≡ true
 every_so meant other so [] h = refl
 every_so meant other so (b ∷ s) h =
-    let (one, others) = both (meant b) (every meant s) h in
+    let (one, others) = and_parts (meant b) (every meant s) h in
     rw (so b one, every_so meant other so s others)
 
 -- all are in front
@@ -40,7 +39,7 @@ pub span_every : (meant : ℕ → Bool) (s t : List ℕ) → every meant s ≡ t
 unfolding span
 span_every meant [] t h = omega arith
 span_every meant (b ∷ s) t h =
-    let (one, others) = both (meant b) (every meant s) h in
+    let (one, others) = and_parts (meant b) (every meant s) h in
     rw one (omega (arith, span_every meant s t others))
 
 -- every digit is
@@ -56,8 +55,8 @@ decimal_plain =
 -- a plain byte is dark, is no `#`, and ends no line
 plain_parts : (b : ℕ) → is_plain b ≡ true → (is_dark b ≡ true) × ((is_text b ≡ true) × (not (eqb b line_feed) ≡ true))
 plain_parts b h =
-    let (dark, others) = both (not (is_blank b)) (not (eqb b 35) && not (eqb b line_feed)) h in
-    (dark, both (not (eqb b 35)) (not (eqb b line_feed)) others)
+    let (dark, others) = and_parts (not (is_blank b)) (not (eqb b 35) && not (eqb b line_feed)) h in
+    (dark, and_parts (not (eqb b 35)) (not (eqb b line_feed)) others)
 
 module _ (word : List ℕ) (plain : Plain word) where
   plain_dark : every is_dark word ≡ true
@@ -77,7 +76,7 @@ dark_begun b s h = rw (not-true (is_blank b) h)
 
 plain_begun : (word rest : List ℕ) → every is_dark word ≡ true → 0 < length word → begun (word ++ rest) ≡ word ++ rest
 plain_begun [] rest h g = absurd (omega arith)
-plain_begun (b ∷ s) rest h g = dark_begun b (s ++ rest) (both (is_dark b) (every is_dark s) h).0
+plain_begun (b ∷ s) rest h g = dark_begun b (s ++ rest) (and_parts (is_dark b) (every is_dark s) h).0
 
 -- the first word is a plain word in front, up to white space or the end, and the rest comes after it
 module _ (word rest : List ℕ) (plain : Plain word) (some : 0 < length word) (stops : span is_dark rest ≡ 0) where

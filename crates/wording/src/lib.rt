@@ -6,8 +6,8 @@ ghost use Rattle.std.specs.Prelude.{◌≡◌, ◌+◌, ◌≤◌, ◌^◌, min,
 ghost use Rattle.wording.specs.Words.{is_blank, is_dark, is_inner, span, uncommented, begun, first, after, same};
 ghost use Rattle.wording.specs.Numbers.{number_of, narrowed, is_number, only_in};
 
-// Why a word is no number of 32 bits: it is past them, or no number at all.
-#[derive(Clone, Copy, PartialEq, Eq)]
+// Why a word is no number of 32 bits: it is past them, or, which is worse, no number at all.
+#[derive(Clone, Copy, PartialEq, Eq, PartialOrd, Ord)]
 pub enum NumberError {
     TooLarge,
     NotANumber,
