@@ -15,6 +15,7 @@ use rules::Packet;
 use state::table::{CELLS, Lengths, PLACES, Words};
 use tree::{Refusal, Tree};
 
+// Stays: a record is found to be one of four things that the request lists, of which only the first is no fault: `?` on it would end the judging without the record's number.
 // What a record is found to be. `ours` is what our rules send, if they send one, where the record has another.
 #[derive(Clone, Copy, PartialEq, Eq)]
 pub enum Finding {
@@ -24,6 +25,7 @@ pub enum Finding {
     Another { ours: Option<Packet> },
 }
 
+// Stays: the request lists these five judgements, numbered from 0, and none of them is an error of judging.
 // What a log is judged as: accepted, the refusal of its tree, or its first wrong record, counted from 0.
 #[derive(Clone, Copy, PartialEq, Eq)]
 pub enum Judgement {

@@ -30,6 +30,7 @@ fn judged(file: &[u8], first: u32, log: &[u32]) -> Judgement
     judge::judge(tree, first, log)
 }
 
+// Stays: a judgement's number and its four numbers are the C interface.
 fn number(judgement: Judgement) -> u32
     ensures { result ≡ judgement_number judgement }
 {

@@ -12,6 +12,7 @@ use judge::{Finding, Judgement};
 use logtext::{NotANumber, Scan};
 use state::table::{Lengths, Words};
 
+// Stays: four states with one number more each, and the definitions of `Meaning` have a case for each; a list with its length would have to say which it is.
 // The numbers of a record that is begun.
 #[derive(Clone, Copy, PartialEq, Eq)]
 pub enum Held {
@@ -21,6 +22,7 @@ pub enum Held {
     Class { kind: u32, stamp: u32, class: u32 },
 }
 
+// Stays: what is wrong does not end the reading where it is found (`judge_text` keeps the scan's line and the records so far), so it is a part of the progress and no error.
 // How a text stands: right so far, a wrong record after the right ones, or a word that is no number.
 #[derive(Clone, Copy, PartialEq, Eq)]
 pub enum Standing {

@@ -9,12 +9,14 @@ use rules::Packet;
 use tree::Refusal;
 
 // The kinds of a record.
+// Stays: a log is a list of numbers, in files and from hosts in C; `Record` is what they say.
 pub const ARRIVAL: u32 = 1;
 
 pub const DEPARTURE: u32 = 2;
 
 pub const FOUND_EMPTY: u32 = 3;
 
+// Stays: a malformed record is one of the request's kinds of record (`record_of`, `RecordReplayed`), judged in its turn like the others.
 // What four numbers say.
 #[derive(Clone, Copy, PartialEq, Eq)]
 pub enum Record {

@@ -27,6 +27,7 @@ use state::ticks::{move_clock, tick};
 use tree::{Fault, Refusal, Tree};
 
 pub mod readers;
+// Stays: the two arrays are lent apart by hosts in C, and each public function here takes them so (docs/PROMISES.md); a type over both that knew `Reached` would ask it of callers in place of the clause.
 // A state started from the tree, at time 0 with this stamp; a state of no classes where the tree is
 // refused.
 pub fn start(tree: Tree, stamp: u32, words: &mut Words, lengths: &mut Lengths) -> Result<(), Fault>

@@ -38,6 +38,7 @@ fn soonest(words: &Words, tick: u64) -> Option<usize>
     if least == LARGEST { None } else { Some(best) }
 }
 
+// Stays: the children are a list by numbers in the array that the host lends (no heap), and an iterator over it needs this loop's invariant as its own.
 // The active child of smallest virtual time, then of lowest number.
 fn lightest(words: &Words, class: usize) -> usize
     requires { SomeCalls (λ tree cs. Stepping words.now tree cs class) }

@@ -11,6 +11,7 @@ use crate::table::{
 use curve::codec::Code;
 use tree::{Class, Tree};
 
+// Stays: two lines that say what is cleared; one function over the length and the type would take the blank cell, and say less.
 pub fn clear_words(words: &mut Words)
     ensures { AllZero words.new table.CELLS }
 {
@@ -61,9 +62,8 @@ pub fn link(words: &mut Words, tree: Tree)
     requires { Linkable words.old tree }
     ensures { Linked words.old words.new tree }
 {
-    let mut i = tree.count as usize;
-    while 1 < i {
-        i = i - 1;
+    let count = tree.count as usize;
+    for i in (1..count).rev() {
         let parent = get(words, i, PARENT) as usize;
         let next = get(words, parent, CHILD);
         put(words, i, SIBLING, next);

@@ -7,6 +7,4 @@ use Rattle.state.proofs.planting.plant.Goals as goal
 
 pub loop-i-preserved : goal.loop-i-preserved
 unfolding class_at
-loop-i-preserved c =
-    let turn = c in
-    (omega arith, planted_more (omega (arith, turn.requires.1)) turn.loop-i.invariant.1 c.plant_class.ensures)
+loop-i-preserved c = planted_more (omega (arith, c.requires.1)) c.loop-i.invariant c.plant_class.ensures
