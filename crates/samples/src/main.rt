@@ -14,21 +14,19 @@ use tree::{Tree, Verdict};
 // What stands at a number that no class can have.
 fn print_beyond(rt: &(impl Print + Eprint), tree: Tree) -> io::Result<()> {
     let class = tree::class_at(tree, 64);
-    console::text(rt, b"at 64: parent")?;
-    console::number(rt, class.parent as u64)?;
-    console::text(rt, b" share")?;
-    console::number(rt, class.share as u64)?;
-    console::text(rt, b"\n")
+    let parent = class.parent;
+    let share = class.share;
+    console::println(rt, format_args!("at 64: parent {parent} share {share}"))
 }
 
 // What a file reads as in bursts. Its tree is then seen by what is written of it.
 fn print_answer(rt: &(impl Print + Eprint), answer: bursts::Answered) -> io::Result<()> {
     console::text(rt, b"in bursts: ")?;
     let bursts::Answered::Reads { verdict } = answer else {
-        return console::text(rt, b"nothing yet\n");
+        return console::println(rt, "nothing yet");
     };
     match verdict {
-        Verdict::Right => console::text(rt, b"right\n"),
+        Verdict::Right => console::println(rt, "right"),
         Verdict::Refused { why, class } => console::say(rt, Answer::TreeRefused { why, class }),
     }
 }
@@ -45,20 +43,16 @@ fn print_file(rt: &(impl Files + Print + Eprint), name: &[u8]) -> io::Result<()>
     let mut bytes = [0u8; TURN];
     let n = console::read_full(&mut file, &mut bytes)?;
     let reading = file::reader::read(&bytes[..n]);
-    let verdict = reading.verdict;
-    match verdict {
+    match reading.verdict {
         Verdict::Right => {
             console::say_tree(rt, reading.tree)?;
             print_beyond(rt, reading.tree)?;
         }
-        Verdict::Refused { why, class } => {
-            console::say(rt, Answer::TreeRefused { why, class })?;
-        }
+        Verdict::Refused { why, class } => console::say(rt, Answer::TreeRefused { why, class })?,
     }
-    let told = cut::read(&bytes[..n]);
-    let answer = told.answer;
-    print_answer(rt, answer)?;
-    writing::print(rt, told.tree, &bytes[..n])
+    let taken = cut::read(&bytes[..n]);
+    print_answer(rt, taken.answer)?;
+    writing::print(rt, taken.tree, &bytes[..n])
 }
 
 fn print_argument(rt: &(impl Env + Files + Print + Eprint), i: usize) -> io::Result<()> {
@@ -70,8 +64,7 @@ fn print_argument(rt: &(impl Env + Files + Print + Eprint), i: usize) -> io::Res
 }
 
 fn main(rt: HostRuntime) -> io::Result<()> {
-    let count = console::arguments(&rt);
-    for i in 1..count {
+    for i in 1..console::arguments(&rt) {
         print_argument(&rt, i)?;
     }
     Ok(())
