@@ -7,12 +7,12 @@ ghost use Rattle.replay.specs.Replies.{StartReplied, ArriveReplied, DepartReplie
 use calls::Line;
 use print::{Answer, LINE, Wrong};
 use records::Entry;
-use rules::Departure;
 use state::table::{Lengths, Words};
 use tree::Tree;
 
 // What a line is replied with: nothing, the answer of its call and what the call leaves in the log, or what is wrong with the
 // line, which ends the replay.
+// Stays: `Replied` and `Told` are stated over these three, and a `Result` of an `Option` would be no plainer.
 #[derive(Clone, Copy)]
 pub enum Reply {
     Silent,
@@ -28,6 +28,7 @@ pub enum Form {
 }
 
 // How far a replay has come.
+// Stays: `after_reply` and `Replayed` state each of these, and a line that is wrong ends a replay that was started and one that was not.
 #[derive(Clone, Copy)]
 pub struct Progress {
     // the lines so far
@@ -53,6 +54,7 @@ pub fn before(form: Form) -> Progress
 }
 
 // Replays the next line, which is lent without its end, and puts its reply into `out`.
+// Stays: both arrays are parameters, since `Replayed` is stated over them and `Reached`, which holds a history, can be no ghost field.
 pub fn replay(
     tree: Tree,
     words: &mut Words,
@@ -82,9 +84,10 @@ fn replied(
     ensures reached { Reached words.new lengths.new }
 {
     if is_started {
-        return later(words, lengths, call);
+        later(words, lengths, call)
+    } else {
+        first(tree, words, lengths, call)
     }
-    first(tree, words, lengths, call)
 }
 
 // A line before which no call was replayed: `start` comes first.
@@ -95,15 +98,16 @@ fn first(tree: Tree, words: &mut Words, lengths: &mut Lengths, call: Line) -> Re
 {
     match call {
         Line::Start { stamp } => start(tree, words, lengths, stamp),
-        Line::Arrive {
-            stamp,
-            class,
-            length,
-        } => stops(Wrong::StartFirst),
-        Line::Depart { stamp } => stops(Wrong::StartFirst),
+        Line::Arrive { .. } | Line::Depart { .. } => Reply::Stops {
+            wrong: Wrong::StartFirst,
+        },
         Line::Nothing => Reply::Silent,
-        Line::TooLarge => stops(Wrong::TooLarge),
-        Line::NotACall => stops(Wrong::NotACall),
+        Line::TooLarge => Reply::Stops {
+            wrong: Wrong::TooLarge,
+        },
+        Line::NotACall => Reply::Stops {
+            wrong: Wrong::NotACall,
+        },
     }
 }
 
@@ -120,10 +124,16 @@ fn later(words: &mut Words, lengths: &mut Lengths, call: Line) -> Reply
             length,
         } => arrive(words, lengths, stamp, class, length),
         Line::Depart { stamp } => depart(words, lengths, stamp),
-        Line::Start { stamp } => stops(Wrong::StartedAlready),
+        Line::Start { .. } => Reply::Stops {
+            wrong: Wrong::StartedAlready,
+        },
         Line::Nothing => Reply::Silent,
-        Line::TooLarge => stops(Wrong::TooLarge),
-        Line::NotACall => stops(Wrong::NotACall),
+        Line::TooLarge => Reply::Stops {
+            wrong: Wrong::TooLarge,
+        },
+        Line::NotACall => Reply::Stops {
+            wrong: Wrong::NotACall,
+        },
     }
 }
 
@@ -133,7 +143,10 @@ fn start(tree: Tree, words: &mut Words, lengths: &mut Lengths, stamp: u32) -> Re
     ensures reached { Reached words.new lengths.new }
 {
     let verdict = sched::start(tree, stamp, words, lengths);
-    says(print::start(verdict, tree.count), Entry::Nothing)
+    Reply::Says {
+        answer: print::start(verdict, tree.count),
+        entry: Entry::Nothing,
+    }
 }
 
 fn arrive(words: &mut Words, lengths: &mut Lengths, stamp: u32, class: u32, bytes: u32) -> Reply
@@ -142,8 +155,10 @@ fn arrive(words: &mut Words, lengths: &mut Lengths, stamp: u32, class: u32, byte
     ensures reached { Reached words.new lengths.new }
 {
     let arrival = sched::arrive(words, lengths, stamp, class, bytes);
-    let entry = records::arrival(stamp, class, bytes, arrival);
-    says(print::arrival(arrival), entry)
+    Reply::Says {
+        answer: print::arrival(arrival),
+        entry: records::arrival(stamp, class, bytes, arrival),
+    }
 }
 
 fn depart(words: &mut Words, lengths: &mut Lengths, stamp: u32) -> Reply
@@ -152,23 +167,10 @@ fn depart(words: &mut Words, lengths: &mut Lengths, stamp: u32) -> Reply
     ensures reached { Reached words.new lengths.new }
 {
     let departure = sched::depart(words, lengths, stamp);
-    let entry = records::departure(stamp, departure);
-    let Departure::Leaves { packet } = departure else {
-        return says(print::departure(departure), entry);
-    };
-    says(Answer::Leaves { packet }, entry)
-}
-
-fn says(answer: Answer, entry: Entry) -> Reply
-    ensures { result ≡ Reply.Says answer entry }
-{
-    Reply::Says { answer, entry }
-}
-
-fn stops(wrong: Wrong) -> Reply
-    ensures { result ≡ Reply.Stops wrong }
-{
-    Reply::Stops { wrong }
+    Reply::Says {
+        answer: print::departure(departure),
+        entry: records::departure(stamp, departure),
+    }
 }
 
 // Prints a reply. No file has 2^64 lines.
@@ -176,38 +178,29 @@ fn told(reply: Reply, out: &mut [u8; LINE], run: Progress) -> Progress
     ensures told { Told reply run out.old out.new result }
     ensures within { Within result.printed out.new × (result.printed ≤ line_room) }
 {
-    let lines = std::num::wrapping_add_u64(run.lines, 1);
-    let form = run.form;
+    let lines = run.lines.wrapping_add(1);
     match reply {
         Reply::Silent => Progress {
             lines,
             printed: 0,
-            is_started: run.is_started,
-            is_going: run.is_going,
-            form,
+            ..run
         },
-        Reply::Says { answer, entry } => {
-            let printed = put(form, answer, entry, out);
-            Progress {
-                lines,
-                printed,
-                is_started: true,
-                is_going: run.is_going,
-                form,
-            }
-        }
+        Reply::Says { answer, entry } => Progress {
+            lines,
+            printed: put(run.form, answer, entry, out),
+            is_started: true,
+            ..run
+        },
         Reply::Stops { wrong } => {
             let fault = Answer::Faulty {
                 number: lines,
                 wrong,
             };
-            let printed = print::line(fault, out);
             Progress {
                 lines,
-                printed,
-                is_started: run.is_started,
+                printed: print::line(fault, out),
                 is_going: false,
-                form,
+                ..run
             }
         }
     }
@@ -229,5 +222,11 @@ pub fn overlong(out: &mut [u8; LINE], run: Progress) -> Progress
     ensures told { Told (Reply.Stops Wrong.NotACall) run out.old out.new result }
     ensures within { Within result.printed out.new × (result.printed ≤ line_room) }
 {
-    told(stops(Wrong::NotACall), out, run)
+    told(
+        Reply::Stops {
+            wrong: Wrong::NotACall,
+        },
+        out,
+        run,
+    )
 }
