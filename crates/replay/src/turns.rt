@@ -9,7 +9,6 @@ use crate::output::Output;
 use console::{Stop, TURN};
 use print::LINE;
 use state::table::{CELLS, PLACES};
-use std::io;
 use std::io::Read;
 use tree::Tree;
 
@@ -41,11 +40,12 @@ impl Window {
 
     // Moves what is not replayed yet to the front, and reads more into the room behind it. A last line that has no end is given one.
     // Whether there is text then.
-    fn refill(&mut self, file: &mut impl Read) -> io::Result<bool>
+    fn refill(&mut self, rt: &impl Eprint, file: &mut impl Read, name: &[u8]) -> Result<bool, Stop>
         requires { self.old.end - self.old.from < TURN }
     {
         self.keep();
-        let n = file.read(&mut self.text[self.end..])?;
+        let read = file.read(&mut self.text[self.end..]);
+        let n = read.map_err(|error| console::fail(rt, name, error))?;
         self.end += n;
         if n == 0 {
             self.finish();
@@ -105,18 +105,12 @@ pub fn replay(
             output.queue(rt, &line[..run.printed]);
         } else {
             output.flush(rt);
-            let is_open = window
-                .refill(file)
-                .map_err(|error| console::fail(rt, name, error))?;
-            if !is_open || !output.is_well {
+            if !window.refill(rt, file, name)? || !output.is_well {
                 break;
             }
         }
     }
     output.flush(rt);
-    if output.is_well && run.is_going {
-        Ok(())
-    } else {
-        Err(Stop::Failed)
-    }
+    let is_done = output.is_well && run.is_going;
+    is_done.then_some(()).ok_or(Stop::Failed)
 }
