@@ -1,5 +1,6 @@
 // The trees that are run. All leaves beneath the root; or all at depth 8; or with branches at every level.
 use curve::Curve;
+use std::array;
 use tree::{Class, Tree};
 
 // Front-loaded, delayed, none and straight in turn: together they promise about half of the link. The
@@ -35,10 +36,7 @@ fn parent_above(number: u8, above: u8) -> u8 {
 }
 
 fn share_above(number: u8, above: u8) -> u32 {
-    if number == 0 {
-        return 65536;
-    }
-    if above != WIDE {
+    if number == 0 || above != WIDE {
         return 65536;
     }
     1024 * number as u32
@@ -70,10 +68,8 @@ fn class_at(number: u8, above: u8, leaves: u8) -> Class {
 
 // A tree with so many leaves.
 pub fn grown(above: u8, leaves: u8) -> Tree {
-    let mut tree = tree::empty();
-    for i in 0..64 {
-        tree.classes[i] = class_at(i as u8, above, leaves);
+    Tree {
+        count: above as u32 + 1 + leaves as u32,
+        classes: array::from_fn(|number| class_at(number as u8, above, leaves)),
     }
-    tree.count = above as u32 + 1 + leaves as u32;
-    tree
 }

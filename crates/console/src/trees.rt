@@ -1,7 +1,7 @@
 // Reads class-tree files. A file of any length is read, in turns.
 ghost use Rattle.console.specs.Trees.{ToldOfSome};
 
-use crate::{ARGUMENT, TURN};
+use crate::{ARGUMENT, Stop, TURN};
 use bursts::{KEPT, MOST_SEEN, Seen, Taken};
 use print::Answer;
 use std::io;
@@ -9,38 +9,17 @@ use std::io::Read;
 use std::rt::{Env, Files};
 use tree::{Fault, Tree};
 
-// A tree, where there is one.
-#[derive(Clone, Copy)]
-pub struct Told {
-    pub is_there: bool,
-    pub tree: Tree,
-}
-
 // The tree of the class-tree file that the argument at that place names. Where there is none, since the file can't be read or is
 // refused, that is said.
-pub fn tree_argument(rt: &(impl Env + Files + Print + Eprint), at: usize) -> Told {
+pub fn tree_argument(rt: &(impl Env + Files + Print + Eprint), at: usize) -> Result<Tree, Stop> {
     let mut name = [0u8; ARGUMENT];
-    let Some(n) = crate::name(rt, at, b"TREE", &mut name) else {
-        return untold();
-    };
+    let n = crate::name(rt, at, b"TREE", &mut name)?;
     match read_tree(rt, &name[..n]).answer {
-        Some(Ok(tree)) => Told {
-            is_there: true,
-            tree,
-        },
+        Some(Ok(tree)) => Ok(tree),
         Some(Err(Fault { why, class })) => {
-            let _ = crate::say(rt, Answer::TreeRefused { why, class });
-            untold()
+            Err(crate::refuse(rt, Answer::TreeRefused { why, class }))
         }
-        None => untold(),
-    }
-}
-
-fn untold() -> Told {
-    let tree = tree::empty();
-    Told {
-        is_there: false,
-        tree,
+        None => Err(Stop::Failed),
     }
 }
 
@@ -71,8 +50,7 @@ fn turns(rt: &impl Eprint, file: &mut impl Read, name: &[u8]) -> Taken
         if n == 0 {
             break;
         }
-        let told = bursts::offer(&mut kept, seen, &bytes[..n]);
-        seen = told.seen;
+        seen = bursts::offer(&mut kept, seen, &bytes[..n]).seen;
     }
     bursts::end(&kept, seen)
 }

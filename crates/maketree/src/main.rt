@@ -4,67 +4,54 @@
 
 mod saving;
 
-use console::{ARGUMENT, Status, TURN};
-use file::writer::Written;
+use console::{ARGUMENT, Stop, TURN};
 use print::Answer;
 use std::rt::{Env, Files};
 use tree::Tree;
 use treetext::Fault;
 
 fn main(rt: HostRuntime) {
-    let status = make(&rt);
-    console::end(&rt, status);
+    console::end(&rt, make(&rt));
 }
 
-fn make(rt: &(impl Env + Files + Print + Eprint)) -> Status {
+fn make(rt: &(impl Env + Files + Print + Eprint)) -> Result<(), Stop> {
     if console::arguments(rt) != 3 {
-        return console::usage(rt, b"usage: maketree TEXT TREE\n");
+        return Err(console::usage(rt, "usage: maketree TEXT TREE"));
     }
     let mut name = [0u8; ARGUMENT];
-    let Some(n) = console::name(rt, 1, b"TEXT", &mut name) else {
-        return Status::Failed;
-    };
+    let n = console::name(rt, 1, b"TEXT", &mut name)?;
     text_file(rt, &name[..n])
 }
 
 // Reads the text, and goes on with its tree.
-fn text_file(rt: &(impl Env + Files + Print + Eprint), name: &[u8]) -> Status {
+fn text_file(rt: &(impl Env + Files + Print + Eprint), name: &[u8]) -> Result<(), Stop> {
     let mut bytes = [0u8; TURN];
-    let got = console::read_file(
+    let n = console::read_file(
         rt,
         name,
         &mut bytes,
-        b"longer than 65536 bytes, no text of a tree",
-    );
-    if !got.is_read {
-        return Status::Failed;
-    }
-    let n = got.bytes;
+        "longer than 65536 bytes, no text of a tree",
+    )?;
     let draft = treetext::read(&bytes[..n]);
     match draft.fault {
-        Some(Fault { line, wrong }) => {
-            let _ = console::say(
-                rt,
-                Answer::Faulty {
-                    number: line,
-                    wrong,
-                },
-            );
-            Status::Failed
-        }
+        Some(Fault { line, wrong }) => Err(console::refuse(
+            rt,
+            Answer::Faulty {
+                number: line,
+                wrong,
+            },
+        )),
         None => tree_file(rt, draft.tree),
     }
 }
 
 // Writes the tree's file into memory, and saves it where it is not refused.
-fn tree_file(rt: &(impl Env + Files + Print + Eprint), tree: Tree) -> Status {
+fn tree_file(rt: &(impl Env + Files + Print + Eprint), tree: Tree) -> Result<(), Stop> {
     let mut bytes = [0u8; 4096];
-    let written = file::writer::write(tree, &mut bytes);
-    match written {
-        Written::Refused { why, class } => {
-            let _ = console::say(rt, Answer::TreeRefused { why, class });
-            Status::Failed
+    match file::writer::write(tree, &mut bytes) {
+        Ok(total) => saving::save(rt, &bytes[..total as usize]),
+        Err(tree::Fault { why, class }) => {
+            Err(console::refuse(rt, Answer::TreeRefused { why, class }))
         }
-        Written::Bytes(total) => saving::save(rt, &bytes[..total as usize]),
     }
 }

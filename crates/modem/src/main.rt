@@ -3,7 +3,7 @@
 
 #![tactic(auto)]
 
-use bursts::KEPT;
+use asking::Reader;
 use std::io;
 
 mod asking;
@@ -11,8 +11,7 @@ mod lengthy;
 mod smallest;
 
 fn main(rt: HostRuntime) -> io::Result<()> {
-    let mut kept = [7u8; KEPT];
-    let mut seen = [7u64; 2];
-    smallest::run(&rt, &mut kept, &mut seen)?;
-    lengthy::run(&rt, &mut kept, &mut seen)
+    let mut reader = Reader::new(&rt);
+    smallest::run(&mut reader)?;
+    lengthy::run(&mut reader)
 }

@@ -1,8 +1,5 @@
 // Document 01's smallest file, sent in bursts.
-use crate::asking::{begin, end, offer};
-use bursts::Kept;
-use console::{number, text};
-use state::table::{CELLS, Lengths, PLACES, Words};
+use crate::asking::Reader;
 use std::io;
 
 // "The smallest straight tree in full".
@@ -11,83 +8,50 @@ pub const FILE: [u8; 60] = [
     0, 16, 0, 0, 0, 0, 0, 1, 0, 0, 0, 0, 0, 0, 0, 0, 0, 0, 0, 1, 0, 0, 0, 0, 0, 1, 0, 1, 0, 0,
 ];
 
-pub fn run(rt: &(impl Print + Eprint), kept: &mut Kept, seen: &mut [u64; 2]) -> io::Result<()> {
-    in_parts(rt, kept, seen)?;
-    after_the_end(rt, kept, seen)?;
-    starts(rt, kept, seen)?;
-    cut_short(rt, kept, seen)?;
-    wrong_share(rt, kept, seen)
+pub fn run(reader: &mut Reader<impl Print + Eprint>) -> io::Result<()> {
+    in_parts(reader)?;
+    after_the_end(reader)?;
+    reader.start()?;
+    cut_short(reader)?;
+    wrong_share(reader)
 }
 
 // Bursts of no byte, one, sixteen and the rest.
-fn in_parts(rt: &(impl Print + Eprint), kept: &mut Kept, seen: &mut [u64; 2]) -> io::Result<()> {
+fn in_parts(reader: &mut Reader<impl Print + Eprint>) -> io::Result<()> {
     let file = FILE;
-    begin(rt, kept, seen)?;
-    offer(rt, kept, seen, &file[..0], 0)?;
-    offer(rt, kept, seen, &file[..1], 0)?;
-    offer(rt, kept, seen, &file[1..17], 15)?;
-    offer(rt, kept, seen, &file[..0], 15)?;
-    offer(rt, kept, seen, &file[17..], 57)?;
-    end(rt, kept, seen)
+    reader.begin()?;
+    reader.offer(&[], 0)?;
+    reader.offer(&file[..1], 0)?;
+    reader.offer(&file[1..17], 15)?;
+    reader.offer(&[], 15)?;
+    reader.offer(&file[17..], 57)?;
+    reader.end()
 }
 
 // Bytes after the end, and the end once more.
-fn after_the_end(
-    rt: &(impl Print + Eprint),
-    kept: &mut Kept,
-    seen: &mut [u64; 2],
-) -> io::Result<()> {
-    let file = FILE;
-    offer(rt, kept, seen, &file[..5], 60)?;
-    end(rt, kept, seen)
-}
-
-// A state starts with the stamp 9; a packet comes two ticks later.
-fn starts(rt: &(impl Print + Eprint), kept: &Kept, seen: &mut [u64; 2]) -> io::Result<()> {
-    let mut words = [0u64; CELLS];
-    let mut lengths = [0u16; PLACES];
-    let mut fault: u32 = 64;
-    let refusal = host::coming::hfsc_start_bursts(
-        &mut words,
-        &mut lengths,
-        kept,
-        seen,
-        9,
-        &mut fault,
-    );
-    text(rt, b"start answers")?;
-    number(rt, refusal as u64)?;
-    text(rt, b" class")?;
-    number(rt, fault as u64)?;
-    text(rt, b" told")?;
-    number(rt, seen[1])?;
-    let mut packet: u64 = 64;
-    let refused = host::hfsc_arrive(&mut words, &mut lengths, 11, 1, 100, &mut packet);
-    text(rt, b" arrive")?;
-    number(rt, refused as u64)?;
-    text(rt, b" clock")?;
-    number(rt, host::hfsc_clock(&words, &lengths))?;
-    text(rt, b"\n")
+fn after_the_end(reader: &mut Reader<impl Print + Eprint>) -> io::Result<()> {
+    reader.offer(&FILE[..5], 60)?;
+    reader.end()
 }
 
 // A file that ends too soon; a start tells the end too.
-fn cut_short(rt: &(impl Print + Eprint), kept: &mut Kept, seen: &mut [u64; 2]) -> io::Result<()> {
+fn cut_short(reader: &mut Reader<impl Print + Eprint>) -> io::Result<()> {
     let file = FILE;
-    begin(rt, kept, seen)?;
-    starts(rt, kept, seen)?;
-    begin(rt, kept, seen)?;
-    offer(rt, kept, seen, &file[..59], 57)?;
-    starts(rt, kept, seen)?;
-    offer(rt, kept, seen, &file[59..], 59)
+    reader.begin()?;
+    reader.start()?;
+    reader.begin()?;
+    reader.offer(&file[..59], 57)?;
+    reader.start()?;
+    reader.offer(&file[59..], 59)
 }
 
 // The leaf has no share.
-fn wrong_share(rt: &(impl Print + Eprint), kept: &mut Kept, seen: &mut [u64; 2]) -> io::Result<()> {
+fn wrong_share(reader: &mut Reader<impl Print + Eprint>) -> io::Result<()> {
     let mut file = FILE;
     file[49] = 0;
-    begin(rt, kept, seen)?;
-    offer(rt, kept, seen, &file, 49)?;
-    end(rt, kept, seen)?;
-    offer(rt, kept, seen, &file, 60)?;
-    starts(rt, kept, seen)
+    reader.begin()?;
+    reader.offer(&file, 49)?;
+    reader.end()?;
+    reader.offer(&file, 60)?;
+    reader.start()
 }

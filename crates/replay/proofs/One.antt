@@ -11,18 +11,14 @@ use Rattle.calls.specs.declared.Call.TheVariants.{Start, Arrive, Depart}
 use Rattle.calls.specs.declared.LineError.TheVariants.{TooLarge, NotACall}
 use Rattle.calls.specs.Lines.{Line, said}
 use Rattle.print.specs.Lines.{start_answer, arrival_answer, departure_answer}
-use Rattle.records.specs.declared.Entry.{Entry}
-use Rattle.records.specs.declared.Entry.TheVariants as entry
-use Rattle.records.specs.Records.{arrival_entry, departure_entry}
+use Rattle.records.specs.Records.{Entry, arrival_entry, departure_entry}
 use Rattle.print.specs.declared.Answer.{Answer}
 use Rattle.print.proofs.One.{printed_one}
 use Rattle.printlog.proofs.One.{prints_entry_one}
 use Rattle.replay.specs.declared.lines.Form.{Form}
 use Rattle.replay.specs.declared.lines.Form.TheVariants.{Answers, Log}
-use Rattle.replay.specs.declared.lines.Reply.{Reply}
-use Rattle.replay.specs.declared.lines.Reply.TheVariants.{Silent, Says, Stops}
 use Rattle.replay.specs.declared.lines.Progress.{Progress}
-use Rattle.replay.specs.Replies.{NoCall, StartReplied, ArriveReplied, DepartReplied, FirstReplied, LaterReplied, Replied, after_reply, CallPrinted, ReplyPrinted, Told, Replayed}
+use Rattle.replay.specs.Replies.{Reply, says, NoCall, StartReplied, ArriveReplied, DepartReplied, FirstReplied, LaterReplied, Replied, after_reply, CallPrinted, ReplyPrinted, Told, Replayed}
 
 -- two replies, each with what the arrays then hold
 abbrev Same : Reply → List ℕ → List ℕ → Reply → List ℕ → List ℕ → Type 0
@@ -36,18 +32,18 @@ module _ (tree : Tree) {m₁ l₁ m₂ l₂ : List ℕ} {r s : Reply} where
   start_replied_one : (stamp : ℕ) → StartReplied tree stamp r m₁ l₁ → StartReplied tree stamp s m₂ l₂ → Same r m₁ l₁ s m₂ l₂
   start_replied_one stamp p q =
       let one = start_one tree stamp p.answer q.answer m₁ m₂ l₁ l₂ p.right q.right in
-      (p.says ∙ ap (λ (v : Verdict). Says (start_answer v tree.count) entry.Nothing) one.0 ∙ sym q.says, one.1, one.2)
+      (p.says ∙ ap (λ (v : Verdict). says (start_answer v tree.count) None) one.0 ∙ sym q.says, one.1, one.2)
 
 module _ (m l : List ℕ) (reached : Reached m l) {m₁ l₁ m₂ l₂ : List ℕ} {r s : Reply} where
   arrive_replied_one : (stamp class bytes : ℕ) → ArriveReplied m l stamp class bytes r m₁ l₁ → ArriveReplied m l stamp class bytes s m₂ l₂ → Same r m₁ l₁ s m₂ l₂
   arrive_replied_one stamp class bytes p q =
       let one = arrive_one m l reached stamp class bytes p.answer q.answer m₁ m₂ l₁ l₂ p.right q.right in
-      (p.says ∙ ap (λ (v : Arrival). Says (arrival_answer v) (arrival_entry stamp class bytes v)) one.0 ∙ sym q.says, one.1, one.2)
+      (p.says ∙ ap (λ (v : Arrival). says (arrival_answer v) (arrival_entry stamp class bytes v)) one.0 ∙ sym q.says, one.1, one.2)
 
   depart_replied_one : (stamp : ℕ) → DepartReplied m l stamp r m₁ l₁ → DepartReplied m l stamp s m₂ l₂ → Same r m₁ l₁ s m₂ l₂
   depart_replied_one stamp p q =
       let one = depart_one m l reached stamp p.answer q.answer m₁ m₂ l₁ l₂ p.right q.right in
-      (p.says ∙ ap (λ (v : Departure). Says (departure_answer v) (departure_entry stamp v)) one.0 ∙ sym q.says, one.1, one.2)
+      (p.says ∙ ap (λ (v : Departure). says (departure_answer v) (departure_entry stamp v)) one.0 ∙ sym q.says, one.1, one.2)
 
   pub first_one : (tree : Tree) (line : Line) → FirstReplied tree m l line r m₁ l₁ → FirstReplied tree m l line s m₂ l₂ → Same r m₁ l₁ s m₂ l₂
   first_one tree (Ok (Some (Start stamp))) p q = start_replied_one tree stamp p q
@@ -76,9 +72,9 @@ module _ (run : Progress) (old new new₂ : List ℕ) where
   call_printed_one Log answer entry n k p q = prints_entry_one entry old new new₂ n k p q
 
   reply_printed_one : (reply : Reply) (n k : ℕ) → ReplyPrinted reply run old new n → ReplyPrinted reply run old new₂ k → (new ≡ new₂) × (n ≡ k)
-  reply_printed_one Silent n k p q = (p.0 ∙ sym q.0, p.1 ∙ sym q.1)
-  reply_printed_one (Says answer entry) n k p q = call_printed_one run.form answer entry n k p q
-  reply_printed_one (Stops why) n k p q = printed_one p q
+  reply_printed_one (Ok None) n k p q = (p.0 ∙ sym q.0, p.1 ∙ sym q.1)
+  reply_printed_one (Ok (Some said)) n k p q = call_printed_one run.form said.answer said.entry n k p q
+  reply_printed_one (Err why) n k p q = printed_one p q
 
   pub told_one : (reply : Reply) (next next₂ : Progress) → Told reply run old new next → Told reply run old new₂ next₂ → (new ≡ new₂) × (next ≡ next₂)
   told_one reply next next₂ p q =

@@ -6,18 +6,15 @@ ghost use Rattle.replay.specs.Replies.{StartReplied, ArriveReplied, DepartReplie
 
 use calls::{Call, LineError};
 use print::{Answer, LINE, Wrong};
-use records::Entry;
-use rules::Departure;
+use records::Numbers;
 use state::table::{Lengths, Words};
 use tree::Tree;
 
-// What a line is replied with: nothing, the answer of its call and what the call leaves in the log, or what is wrong with the
-// line, which ends the replay.
+// What a call is replied with: its answer, and what it leaves in the log.
 #[derive(Clone, Copy)]
-pub enum Reply {
-    Silent,
-    Says { answer: Answer, entry: Entry },
-    Stops { wrong: Wrong },
+pub struct Said {
+    pub answer: Answer,
+    pub entry: Option<Numbers>,
 }
 
 // What is printed of a call: its answer, or what it leaves in the log.
@@ -28,6 +25,7 @@ pub enum Form {
 }
 
 // How far a replay has come.
+// Stays: `after_reply` and `Replayed` state each of these, and a line that is wrong ends a replay that was started and one that was not.
 #[derive(Clone, Copy)]
 pub struct Progress {
     // the lines so far
@@ -53,6 +51,7 @@ pub fn before(form: Form) -> Progress
 }
 
 // Replays the next line, which is lent without its end, and puts its reply into `out`.
+// Stays: both arrays are parameters, since `Replayed` is stated over them and `Reached`, which holds a history, can be no ghost field.
 pub fn replay(
     tree: Tree,
     words: &mut Words,
@@ -70,21 +69,23 @@ pub fn replay(
     told(reply, out, run)
 }
 
+// What a line is replied with: nothing, what its call says, or what is wrong with the line, which ends the replay.
 fn replied(
     tree: Tree,
     words: &mut Words,
     lengths: &mut Lengths,
     call: Result<Option<Call>, LineError>,
     is_started: bool,
-) -> Reply
+) -> Result<Option<Said>, Wrong>
     requires { Reached words.old lengths.old }
     ensures right { Replied tree is_started words.old lengths.old call result words.new lengths.new }
     ensures reached { Reached words.new lengths.new }
 {
     if is_started {
-        return later(words, lengths, call);
+        later(words, lengths, call)
+    } else {
+        first(tree, words, lengths, call)
     }
-    first(tree, words, lengths, call)
 }
 
 // A line before which no call was replayed: `start` comes first.
@@ -93,145 +94,126 @@ fn first(
     words: &mut Words,
     lengths: &mut Lengths,
     call: Result<Option<Call>, LineError>,
-) -> Reply
+) -> Result<Option<Said>, Wrong>
     requires { Reached words.old lengths.old }
     ensures right { FirstReplied tree words.old lengths.old call result words.new lengths.new }
     ensures reached { Reached words.new lengths.new }
 {
     match call {
-        Ok(Some(Call::Start { stamp })) => start(tree, words, lengths, stamp),
-        Ok(Some(Call::Arrive { .. } | Call::Depart { .. })) => stops(Wrong::StartFirst),
-        Ok(None) => Reply::Silent,
-        Err(LineError::TooLarge) => stops(Wrong::TooLarge),
-        Err(LineError::NotACall) => stops(Wrong::NotACall),
+        Ok(Some(Call::Start { stamp })) => Ok(Some(start(tree, words, lengths, stamp))),
+        Ok(Some(Call::Arrive { .. } | Call::Depart { .. })) => Err(Wrong::StartFirst),
+        Ok(None) => Ok(None),
+        Err(LineError::TooLarge) => Err(Wrong::TooLarge),
+        Err(LineError::NotACall) => Err(Wrong::NotACall),
     }
 }
 
 // A line after `start`.
-fn later(words: &mut Words, lengths: &mut Lengths, call: Result<Option<Call>, LineError>) -> Reply
+fn later(
+    words: &mut Words,
+    lengths: &mut Lengths,
+    call: Result<Option<Call>, LineError>,
+) -> Result<Option<Said>, Wrong>
     requires { Reached words.old lengths.old }
     ensures right { LaterReplied words.old lengths.old call result words.new lengths.new }
     ensures reached { Reached words.new lengths.new }
 {
     match call {
-        Ok(
-            Some(
-                Call::Arrive {
-                    stamp,
-                    class,
-                    length,
-                },
-            ),
-        ) => arrive(words, lengths, stamp, class, length),
-        Ok(Some(Call::Depart { stamp })) => depart(words, lengths, stamp),
-        Ok(Some(Call::Start { .. })) => stops(Wrong::StartedAlready),
-        Ok(None) => Reply::Silent,
-        Err(LineError::TooLarge) => stops(Wrong::TooLarge),
-        Err(LineError::NotACall) => stops(Wrong::NotACall),
+        Ok(Some(Call::Arrive { stamp, class, length })) => {
+            Ok(Some(arrive(words, lengths, stamp, class, length)))
+        }
+        Ok(Some(Call::Depart { stamp })) => Ok(Some(depart(words, lengths, stamp))),
+        Ok(Some(Call::Start { .. })) => Err(Wrong::StartedAlready),
+        Ok(None) => Ok(None),
+        Err(LineError::TooLarge) => Err(Wrong::TooLarge),
+        Err(LineError::NotACall) => Err(Wrong::NotACall),
     }
 }
 
-// The three calls, each replied with its answer.
-fn start(tree: Tree, words: &mut Words, lengths: &mut Lengths, stamp: u32) -> Reply
-    ensures right { StartReplied tree stamp result words.new lengths.new }
+// The three calls, each with its answer.
+fn start(tree: Tree, words: &mut Words, lengths: &mut Lengths, stamp: u32) -> Said
+    ensures right { StartReplied tree stamp (Ok (Some result)) words.new lengths.new }
     ensures reached { Reached words.new lengths.new }
 {
     let verdict = sched::start(tree, stamp, words, lengths);
-    says(print::start(verdict, tree.count), Entry::Nothing)
+    Said {
+        answer: print::start(verdict, tree.count),
+        entry: None,
+    }
 }
 
-fn arrive(words: &mut Words, lengths: &mut Lengths, stamp: u32, class: u32, bytes: u32) -> Reply
+fn arrive(words: &mut Words, lengths: &mut Lengths, stamp: u32, class: u32, bytes: u32) -> Said
     requires { Reached words.old lengths.old }
-    ensures right { ArriveReplied words.old lengths.old stamp class bytes result words.new lengths.new }
+    ensures right { ArriveReplied words.old lengths.old stamp class bytes (Ok (Some result)) words.new lengths.new }
     ensures reached { Reached words.new lengths.new }
 {
     let arrival = sched::arrive(words, lengths, stamp, class, bytes);
-    let entry = records::arrival(stamp, class, bytes, arrival);
-    says(print::arrival(arrival), entry)
+    Said {
+        answer: print::arrival(arrival),
+        entry: records::arrival(stamp, class, bytes, arrival),
+    }
 }
 
-fn depart(words: &mut Words, lengths: &mut Lengths, stamp: u32) -> Reply
+fn depart(words: &mut Words, lengths: &mut Lengths, stamp: u32) -> Said
     requires { Reached words.old lengths.old }
-    ensures right { DepartReplied words.old lengths.old stamp result words.new lengths.new }
+    ensures right { DepartReplied words.old lengths.old stamp (Ok (Some result)) words.new lengths.new }
     ensures reached { Reached words.new lengths.new }
 {
     let departure = sched::depart(words, lengths, stamp);
-    let entry = records::departure(stamp, departure);
-    let Departure::Leaves { packet } = departure else {
-        return says(print::departure(departure), entry);
-    };
-    says(Answer::Leaves { packet }, entry)
-}
-
-fn says(answer: Answer, entry: Entry) -> Reply
-    ensures { result ≡ Reply.Says answer entry }
-{
-    Reply::Says { answer, entry }
-}
-
-fn stops(wrong: Wrong) -> Reply
-    ensures { result ≡ Reply.Stops wrong }
-{
-    Reply::Stops { wrong }
+    Said {
+        answer: print::departure(departure),
+        entry: records::departure(stamp, departure),
+    }
 }
 
 // Prints a reply. No file has 2^64 lines.
-fn told(reply: Reply, out: &mut [u8; LINE], run: Progress) -> Progress
+fn told(reply: Result<Option<Said>, Wrong>, out: &mut [u8; LINE], run: Progress) -> Progress
     ensures told { Told reply run out.old out.new result }
     ensures within { Within result.printed out.new × (result.printed ≤ line_room) }
 {
-    let lines = std::num::wrapping_add_u64(run.lines, 1);
-    let form = run.form;
+    let lines = run.lines.wrapping_add(1);
     match reply {
-        Reply::Silent => Progress {
+        Ok(None) => Progress {
             lines,
             printed: 0,
-            is_started: run.is_started,
-            is_going: run.is_going,
-            form,
+            ..run
         },
-        Reply::Says { answer, entry } => {
-            let printed = put(form, answer, entry, out);
-            Progress {
-                lines,
-                printed,
-                is_started: true,
-                is_going: run.is_going,
-                form,
-            }
-        }
-        Reply::Stops { wrong } => {
+        Ok(Some(said)) => Progress {
+            lines,
+            printed: put(run.form, said, out),
+            is_started: true,
+            ..run
+        },
+        Err(wrong) => {
             let fault = Answer::Faulty {
                 number: lines,
                 wrong,
             };
-            let printed = print::line(fault, out);
             Progress {
                 lines,
-                printed,
-                is_started: run.is_started,
+                printed: print::line(fault, out),
                 is_going: false,
-                form,
+                ..run
             }
         }
     }
 }
 
 // What a call is printed as.
-fn put(form: Form, answer: Answer, entry: Entry, out: &mut [u8; LINE]) -> usize
-    ensures printed { CallPrinted form answer entry out.old out.new result }
+fn put(form: Form, said: Said, out: &mut [u8; LINE]) -> usize
+    ensures printed { CallPrinted form said.answer said.entry out.old out.new result }
     ensures within { Within result out.new × (result ≤ line_room) }
 {
     match form {
-        Form::Answers => print::line(answer, out),
-        Form::Log => printlog::entry(entry, out),
+        Form::Answers => print::line(said.answer, out),
+        Form::Log => printlog::entry(said.entry, out),
     }
 }
 
 // A line that the program's memory does not hold: it is not a call, whatever is in it.
 pub fn overlong(out: &mut [u8; LINE], run: Progress) -> Progress
-    ensures told { Told (Reply.Stops Wrong.NotACall) run out.old out.new result }
+    ensures told { Told (Err Wrong.NotACall) run out.old out.new result }
     ensures within { Within result.printed out.new × (result.printed ≤ line_room) }
 {
-    told(stops(Wrong::NotACall), out, run)
+    told(Err(Wrong::NotACall), out, run)
 }

@@ -6,71 +6,57 @@ mod lines;
 mod output;
 mod turns;
 
-use console::{ARGUMENT, Status};
+use console::{ARGUMENT, Stop};
 use lines::Form;
 use std::rt::{Env, Files};
-use tree::Tree;
 
 fn main(rt: HostRuntime) {
-    let status = run(&rt);
-    console::end(&rt, status);
+    console::end(&rt, run(&rt));
 }
 
-fn run(rt: &(impl Env + Files + Print + Eprint)) -> Status {
+fn run(rt: &(impl Env + Files + Print + Eprint)) -> Result<(), Stop> {
     match console::arguments(rt) {
         2 => show(rt),
-        3 => calls(rt, Form::Answers, 1),
+        3 => calls(rt, Form::Answers, 1, 2),
         4 => log(rt),
-        _ => misused(rt),
+        _ => Err(misused(rt)),
     }
 }
 
-fn misused(rt: &impl Eprint) -> Status {
+fn misused(rt: &impl Eprint) -> Stop {
     console::usage(
         rt,
-        b"usage: replay TREE [CALLS]\n       replay --log TREE CALLS\n",
+        "usage: replay TREE [CALLS]\n       replay --log TREE CALLS",
     )
 }
 
 // Prints the tree.
-fn show(rt: &(impl Env + Files + Print + Eprint)) -> Status {
-    let told = console::tree_argument(rt, 1);
-    if !told.is_there {
-        return Status::Failed;
-    }
-    console::done(console::say_tree(rt, told.tree).is_ok())
+fn show(rt: &(impl Env + Files + Print + Eprint)) -> Result<(), Stop> {
+    let tree = console::tree_argument(rt, 1)?;
+    console::say_tree(rt, tree).or(Err(Stop::Failed))
 }
 
 // The log, where the first argument asks for it.
-fn log(rt: &(impl Env + Files + Print + Eprint)) -> Status {
+fn log(rt: &(impl Env + Files + Print + Eprint)) -> Result<(), Stop> {
     let mut word = [0u8; ARGUMENT];
     let n = console::word(rt, 1, &mut word);
-    if wording::is(&word[..n], b"--log") {
-        return calls(rt, Form::Log, 2);
+    if &word[..n] != b"--log".as_slice() {
+        return Err(misused(rt));
     }
-    misused(rt)
+    calls(rt, Form::Log, 2, 3)
 }
 
-// Replays the calls. The argument at that place names the tree, and the next one the calls.
-fn calls(rt: &(impl Env + Files + Print + Eprint), form: Form, at: usize) -> Status {
-    let told = console::tree_argument(rt, at);
-    if !told.is_there {
-        return Status::Failed;
-    }
+// Replays the calls over the tree, which are the arguments at these places.
+fn calls(
+    rt: &(impl Env + Files + Print + Eprint),
+    form: Form,
+    tree: usize,
+    calls: usize,
+) -> Result<(), Stop> {
+    let tree = console::tree_argument(rt, tree)?;
     let mut name = [0u8; ARGUMENT];
-    let next = std::num::wrapping_add_usize(at, 1);
-    let Some(n) = console::name(rt, next, b"CALLS", &mut name) else {
-        return Status::Failed;
-    };
-    calls_file(rt, form, told.tree, &name[..n])
-}
-
-fn calls_file(rt: &(impl Files + Print + Eprint), form: Form, tree: Tree, name: &[u8]) -> Status {
-    match console::open(rt, name) {
-        Ok(mut file) => console::done(turns::replay(rt, form, tree, &mut file, name)),
-        Err(error) => {
-            console::fail(rt, name, error);
-            Status::Failed
-        }
-    }
+    let n = console::name(rt, calls, b"CALLS", &mut name)?;
+    let name = &name[..n];
+    let mut file = console::open(rt, name).map_err(|error| console::fail(rt, name, error))?;
+    turns::replay(rt, form, tree, &mut file, name)
 }

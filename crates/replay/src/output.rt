@@ -1,35 +1,44 @@
-// What is printed waits in a lent array, of which the first `used` bytes count, and is written at the latest when the next
-// line has no room.
-ghost use Rattle.std.specs.Prelude.{◌≤◌, length};
+// What is printed waits in an array, and is written at the latest when the next line has no room.
+ghost use Rattle.std.specs.Prelude.{◌≡◌, ◌≤◌, length};
 ghost use Rattle.replay.specs.Text.{Queued};
 
-// Writes the bytes that wait. Whether they could be written.
-pub fn flush(rt: &(impl Print + Eprint), out: &[u8], used: usize) -> bool
-    requires { used ≤ length out.now }
-{
-    console::text(rt, &out[..used]).is_ok()
-}
+use console::TURN;
 
-// So many bytes wait, and whether those before could be written where they had to be.
-#[derive(Clone, Copy)]
-pub struct Waiting {
-    pub used: usize,
+// The bytes in front wait. Whether those before could be written where they had to be.
+#[derive(Drop)]
+pub struct Output {
+    bytes: [u8; TURN],
+    used: usize,
     pub is_well: bool,
+    ghost within: { used ≤ length bytes },
 }
 
-// A line more: behind the bytes that wait, or in front once they are written.
-pub fn queue(rt: &(impl Print + Eprint), out: &mut [u8], used: usize, line: &[u8]) -> Waiting
-    requires { (used ≤ length out.old) × (length line.now ≤ length out.old) }
-    ensures { Queued out.old used line.now out.new result.used }
-{
-    if out.len() - used < line.len() {
-        let is_well = flush(rt, out, used);
-        let used = print::put::text(out, 0, line);
-        return Waiting { used, is_well };
+impl Output {
+    pub fn new() -> Self {
+        Output {
+            bytes: [0; TURN],
+            used: 0,
+            is_well: true,
+        }
     }
-    let used = print::put::text(out, used, line);
-    Waiting {
-        used,
-        is_well: true,
+
+    // Writes the bytes that wait.
+    pub fn flush(&mut self, rt: &(impl Print + Eprint))
+        ensures { (self.new.bytes ≡ self.old.bytes) × (self.new.used ≡ 0) }
+    {
+        let written = console::text(rt, &self.bytes[..self.used]);
+        self.is_well = self.is_well && written.is_ok();
+        self.used = 0;
+    }
+
+    // A line more: behind the bytes that wait, or in front once they are written.
+    pub fn queue(&mut self, rt: &(impl Print + Eprint), line: &[u8])
+        requires { length line.now ≤ TURN }
+        ensures { Queued self.old.bytes self.old.used line.now self.new.bytes self.new.used }
+    {
+        if self.bytes.len() - self.used < line.len() {
+            self.flush(rt);
+        }
+        self.used = print::put::text(&mut self.bytes, self.used, line);
     }
 }

@@ -8,14 +8,11 @@ const BURST: usize = 7;
 pub fn read(file: &[u8]) -> Taken {
     let mut kept = [0u8; KEPT];
     let mut seen = bursts::begin(&mut kept);
-    let mut from = 0;
-    while BURST <= file.len() - from {
-        let to = from + BURST;
-        let told = bursts::offer(&mut kept, seen, &file[from..to]);
-        seen = told.seen;
-        from = to;
+    let whole = file.chunks_exact(BURST);
+    let last = whole.remainder();
+    for burst in whole {
+        seen = bursts::offer(&mut kept, seen, burst).seen;
     }
-    let told = bursts::offer(&mut kept, seen, &file[from..]);
-    seen = told.seen;
+    seen = bursts::offer(&mut kept, seen, last).seen;
     bursts::end(&kept, seen)
 }

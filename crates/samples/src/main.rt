@@ -14,19 +14,20 @@ use tree::{Fault, Tree};
 // What stands at a number that no class can have.
 fn print_beyond(rt: &(impl Print + Eprint), tree: Tree) -> io::Result<()> {
     let class = tree::class_at(tree, 64);
-    console::text(rt, b"at 64: parent")?;
-    console::number(rt, class.parent as u64)?;
-    console::text(rt, b" share")?;
-    console::number(rt, class.share as u64)?;
-    console::text(rt, b"\n")
+    let parent = class.parent;
+    let share = class.share;
+    console::println(rt, format_args!("at 64: parent {parent} share {share}"))
 }
 
 // What a file reads as in bursts. Its tree is then seen by what is written of it.
-fn print_answer(rt: &(impl Print + Eprint), answer: Option<Result<Tree, Fault>>) -> io::Result<()> {
+fn print_answer(
+    rt: &(impl Print + Eprint),
+    answer: Option<Result<Tree, Fault>>,
+) -> io::Result<()> {
     console::text(rt, b"in bursts: ")?;
     match answer {
-        None => console::text(rt, b"nothing yet\n"),
-        Some(Ok(_)) => console::text(rt, b"right\n"),
+        None => console::println(rt, "nothing yet"),
+        Some(Ok(_)) => console::println(rt, "right"),
         Some(Err(Fault { why, class })) => console::say(rt, Answer::TreeRefused { why, class }),
     }
 }
@@ -47,9 +48,7 @@ fn print_file(rt: &(impl Files + Print + Eprint), name: &[u8]) -> io::Result<()>
             console::say_tree(rt, tree)?;
             print_beyond(rt, tree)?;
         }
-        Err(Fault { why, class }) => {
-            console::say(rt, Answer::TreeRefused { why, class })?;
-        }
+        Err(Fault { why, class }) => console::say(rt, Answer::TreeRefused { why, class })?,
     }
     let answer = cut::read(&bytes[..n]).answer;
     print_answer(rt, answer)?;
@@ -73,8 +72,7 @@ fn print_argument(rt: &(impl Env + Files + Print + Eprint), i: usize) -> io::Res
 }
 
 fn main(rt: HostRuntime) -> io::Result<()> {
-    let count = console::arguments(&rt);
-    for i in 1..count {
+    for i in 1..console::arguments(&rt) {
         print_argument(&rt, i)?;
     }
     Ok(())

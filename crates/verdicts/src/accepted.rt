@@ -3,18 +3,17 @@ use crate::tell;
 use std::io;
 
 pub fn run(rt: &(impl Print + Eprint), file: &[u8]) -> io::Result<()> {
-    tell(rt, b"empty:", file, &[])?;
-    tell(rt, b"sent:", file, &[1, 0, 3, 200, 2, 0, 3, 200])?;
-    tell(rt, b"found empty:", file, &[3, 5, 0, 0, 3, 5, 0, 0])?;
+    tell(rt, "empty", file, &[])?;
+    tell(rt, "sent", file, &[1, 0, 3, 200, 2, 0, 3, 200])?;
+    tell(rt, "found empty", file, &[3, 5, 0, 0, 3, 5, 0, 0])?;
     refused(rt, file)
 }
 
 // The first 20 bytes of the file: it ends within its contents.
 fn refused(rt: &(impl Print + Eprint), file: &[u8]) -> io::Result<()> {
-    if file.len() < 20 {
+    let Some(front) = file.get(..20) else {
         return Ok(());
-    }
-    let front = &file[..20];
-    tell(rt, b"refused file:", front, &[])?;
-    tell(rt, b"refused file, short log:", front, &[9])
+    };
+    tell(rt, "refused file", front, &[])?;
+    tell(rt, "refused file, short log", front, &[9])
 }

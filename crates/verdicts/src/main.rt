@@ -14,25 +14,18 @@ fn main(rt: HostRuntime) -> io::Result<()> {
     let mut name = [0u8; ARGUMENT];
     let n = console::word(&rt, 1, &mut name);
     let mut bytes = [0u8; 4096];
-    let got = console::read_file(&rt, &name[..n], &mut bytes, b"too long");
-    if !got.is_read {
+    let Ok(n) = console::read_file(&rt, &name[..n], &mut bytes, "too long") else {
         return Ok(());
-    }
-    let n = got.bytes;
+    };
     accepted::run(&rt, &bytes[..n])?;
     wrong::run(&rt, &bytes[..n])?;
     started::run(&rt)
 }
 
-// The line of a log. What `out` held before is no part of the answer.
-fn tell(rt: &(impl Print + Eprint), what: &[u8], file: &[u8], log: &[u32]) -> io::Result<()> {
-    let mut out = [77u64; 4];
-    let said = host::hfsc_judge(file, 0, log, &mut out);
-    console::text(rt, what)?;
-    console::number(rt, said as u64)?;
-    console::number(rt, out[0])?;
-    console::number(rt, out[1])?;
-    console::number(rt, out[2])?;
-    console::number(rt, out[3])?;
-    console::text(rt, b"\n")
+// The line of a log. What the numbers were before is no part of the answer.
+fn tell(rt: &(impl Print + Eprint), what: &str, file: &[u8], log: &[u32]) -> io::Result<()> {
+    let mut more = [77u64; 4];
+    let said = host::hfsc_judge(file, 0, log, &mut more);
+    let [a, b, c, d] = more;
+    console::println(rt, format_args!("{what}: {said} {a} {b} {c} {d}"))
 }

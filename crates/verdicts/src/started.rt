@@ -4,10 +4,8 @@ use print::Answer;
 use std::io;
 
 pub fn run(rt: &(impl Print + Eprint)) -> io::Result<()> {
-    let judgement = judge::judge(tree::empty(), 0, &[9]);
-    let Judgement::TreeRefused { why, class } = judgement else {
-        console::text(rt, b"the tree of no classes is not refused\n")?;
-        return Ok(());
+    let Judgement::TreeRefused { why, class } = judge::judge(tree::empty(), 0, &[9]) else {
+        return console::println(rt, "the tree of no classes is not refused");
     };
     console::text(rt, b"the tree of no classes: ")?;
     console::say(rt, Answer::TreeRefused { why, class })

@@ -1,101 +1,88 @@
-// The three calls of the scheduler, each with its answer printed.
+// The calls of the scheduler, each with its answer printed.
 ghost use Rattle.state.specs.State.{Reached};
 
-use console::{number, say, text};
 use rules::Times;
-use state::table::{Lengths, Words};
+use state::table::{CELLS, Lengths, PLACES, Words};
+use std::fmt::Display;
 use std::io;
 use tree::Tree;
 
-pub fn starts(
-    rt: &(impl Print + Eprint),
-    tree: Tree,
-    stamp: u32,
-    words: &mut Words,
-    lengths: &mut Lengths,
-) -> io::Result<()>
-    ensures { Reached words.new lengths.new }
-{
-    say(
-        rt,
-        print::start(sched::start(tree, stamp, words, lengths), tree.count),
-    )
+// A state, and where the answers are printed.
+// Stays: `Reached` is said by each method, and is no ghost field: it holds a history, and a ghost field takes facts of one proof alone.
+#[derive(Drop)]
+pub struct Scheduler<R> {
+    pub words: Words,
+    pub lengths: Lengths,
+    rt: R,
 }
 
-pub fn arrives(
-    rt: &(impl Print + Eprint),
-    words: &mut Words,
-    lengths: &mut Lengths,
-    stamp: u32,
-    class: u32,
-    length: u32,
-) -> io::Result<()>
-    requires { Reached words.old lengths.old }
-    ensures { Reached words.new lengths.new }
-{
-    say(
-        rt,
-        print::arrival(sched::arrive(words, lengths, stamp, class, length)),
-    )
-}
+impl<R: Print + Eprint> Scheduler<R> {
+    pub fn new(rt: R) -> Self {
+        Scheduler {
+            words: [0; CELLS],
+            lengths: [0; PLACES],
+            rt,
+        }
+    }
 
-pub fn departs(
-    rt: &(impl Print + Eprint),
-    words: &mut Words,
-    lengths: &mut Lengths,
-    stamp: u32,
-) -> io::Result<()>
-    requires { Reached words.old lengths.old }
-    ensures { Reached words.new lengths.new }
-{
-    say(rt, print::departure(sched::depart(words, lengths, stamp)))
-}
+    pub fn println<D: Display + Drop>(&self, shown: D) -> io::Result<()> {
+        console::println(&self.rt, shown)
+    }
 
-// The virtual times of two classes.
-pub fn virtual_times(
-    rt: &(impl Print + Eprint),
-    words: &Words,
-    lengths: &Lengths,
-    a: u32,
-    b: u32,
-) -> io::Result<()>
-    requires { Reached words.now lengths.now }
-{
-    text(rt, b"virtual times")?;
-    number(rt, sched::readers::virtual_time(words, lengths, a))?;
-    text(rt, b" and")?;
-    number(rt, sched::readers::virtual_time(words, lengths, b))?;
-    text(rt, b"\n")
-}
+    pub fn start(&mut self, tree: Tree, stamp: u32) -> io::Result<()>
+        ensures { Reached self.new.words self.new.lengths }
+    {
+        let verdict = sched::start(tree, stamp, &mut self.words, &mut self.lengths);
+        console::say(&self.rt, print::start(verdict, tree.count))
+    }
 
-// The clock, and what may be asked of a class: as `clock 60 class 1 waiting 2 virtual 0 eligible 50 deadline 1050`.
-pub fn asks(
-    rt: &(impl Print + Eprint),
-    words: &Words,
-    lengths: &Lengths,
-    class: u32,
-) -> io::Result<()>
-    requires { Reached words.now lengths.now }
-{
-    text(rt, b"clock")?;
-    number(rt, sched::readers::clock(words, lengths))?;
-    text(rt, b" class")?;
-    number(rt, class as u64)?;
-    text(rt, b" waiting")?;
-    number(rt, sched::readers::waiting(words, lengths, class))?;
-    text(rt, b" virtual")?;
-    number(rt, sched::readers::virtual_time(words, lengths, class))?;
-    times(rt, sched::readers::head_times(words, lengths, class))?;
-    text(rt, b"\n")
-}
+    pub fn arrive(&mut self, stamp: u32, class: u32, length: u32) -> io::Result<()>
+        requires { Reached self.old.words self.old.lengths }
+        ensures { Reached self.new.words self.new.lengths }
+    {
+        let arrival = sched::arrive(&mut self.words, &mut self.lengths, stamp, class, length);
+        console::say(&self.rt, print::arrival(arrival))
+    }
 
-// As ` eligible 0 deadline 1000`, for a leaf with a real-time curve.
-fn times(rt: &(impl Print + Eprint), times: Times) -> io::Result<()> {
-    let Times::Timed { eligible, deadline } = times else {
-        return Ok(());
-    };
-    text(rt, b" eligible")?;
-    number(rt, eligible)?;
-    text(rt, b" deadline")?;
-    number(rt, deadline)
+    pub fn depart(&mut self, stamp: u32) -> io::Result<()>
+        requires { Reached self.old.words self.old.lengths }
+        ensures { Reached self.new.words self.new.lengths }
+    {
+        let departure = sched::depart(&mut self.words, &mut self.lengths, stamp);
+        console::say(&self.rt, print::departure(departure))
+    }
+
+    // The virtual times of two classes.
+    pub fn virtual_times(&self, a: u32, b: u32) -> io::Result<()>
+        requires { Reached self.now.words self.now.lengths }
+    {
+        let first = sched::readers::virtual_time(&self.words, &self.lengths, a);
+        let second = sched::readers::virtual_time(&self.words, &self.lengths, b);
+        self.println(format_args!("virtual times {first} and {second}"))
+    }
+
+    // The clock, and what may be asked of a class: as `clock 60 class 1 waiting 2 virtual 0 eligible 50 deadline 1050`, with both times
+    // for a leaf with a real-time curve.
+    pub fn ask(&self, class: u32) -> io::Result<()>
+        requires { Reached self.now.words self.now.lengths }
+    {
+        let clock = sched::readers::clock(&self.words, &self.lengths);
+        let waiting = sched::readers::waiting(&self.words, &self.lengths, class);
+        let virtual_time = sched::readers::virtual_time(&self.words, &self.lengths, class);
+        let asked = format_args!(
+            "clock {clock} class {class} waiting {waiting} virtual {virtual_time}"
+        );
+        match sched::readers::head_times(&self.words, &self.lengths, class) {
+            Times::Untimed => self.println(asked),
+            Times::Timed { eligible, deadline } => {
+                self.println(format_args!("{asked} eligible {eligible} deadline {deadline}"))
+            }
+        }
+    }
+
+    // How many slots of the lent array hold a length.
+    pub fn slots(&self) -> io::Result<()> {
+        let held = self.lengths.iter().filter(|length| **length != 0).count();
+        self.println(format_args!("slots in use {held}"))
+    }
 }

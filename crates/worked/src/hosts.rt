@@ -1,185 +1,173 @@
 // The functions for hosts in C: each is called, and what it writes to the places that it is lent is printed.
 ghost use Rattle.state.specs.State.{Reached};
 
-use console::{line, number, text};
-use state::table::{Lengths, Words};
+use state::table::{CELLS, Lengths, PLACES, Words};
 use std::io;
 
-pub fn run(rt: &(impl Print + Eprint), words: &mut Words, lengths: &mut Lengths) -> io::Result<()> {
-    by_words(rt, words, lengths)?;
-    by_file(rt, words, lengths)?;
-    refused(rt, words, lengths)?;
+pub fn run(rt: &(impl Print + Eprint)) -> io::Result<()> {
+    let mut host = Host {
+        words: [0; CELLS],
+        lengths: [0; PLACES],
+        rt,
+    };
+    by_words(&mut host)?;
+    by_file(&mut host)?;
+    refused(&mut host)?;
     written(rt)
 }
 
-// As `start 0 fault 0`.
-fn started(rt: &(impl Print + Eprint), refusal: u32, fault: u32) -> io::Result<()> {
-    text(rt, b"start")?;
-    number(rt, refusal as u64)?;
-    text(rt, b" fault")?;
-    number(rt, fault as u64)?;
-    text(rt, b"\n")
+// A state, and where the answers are printed.
+// Stays: `Reached` is said by each method, and is no ghost field: it holds a history, and a ghost field takes facts of one proof alone.
+#[derive(Drop)]
+struct Host<R> {
+    words: Words,
+    lengths: Lengths,
+    rt: R,
 }
 
-fn starts(
-    rt: &(impl Print + Eprint),
-    words: &mut Words,
-    lengths: &mut Lengths,
-    tree: &[u32],
-    stamp: u32,
-) -> io::Result<()>
-    ensures { Reached words.new lengths.new }
-{
-    let mut fault: u32 = 64;
-    let refusal = host::hfsc_start_words(words, lengths, tree, stamp, &mut fault);
-    started(rt, refusal, fault)
-}
+impl<R: Print + Eprint> Host<R> {
+    // As `start 0 fault 0`.
+    fn started(&self, refusal: u32, fault: u32) -> io::Result<()> {
+        console::println(&self.rt, format_args!("start {refusal} fault {fault}"))
+    }
 
-fn starts_file(
-    rt: &(impl Print + Eprint),
-    words: &mut Words,
-    lengths: &mut Lengths,
-    file: &[u8],
-    stamp: u32,
-) -> io::Result<()>
-    ensures { Reached words.new lengths.new }
-{
-    let mut fault: u32 = 64;
-    let refusal = host::hfsc_start_file(words, lengths, file, stamp, &mut fault);
-    started(rt, refusal, fault)
-}
+    fn start(&mut self, tree: &[u32], stamp: u32) -> io::Result<()>
+        ensures { Reached self.new.words self.new.lengths }
+    {
+        let mut fault: u32 = 64;
+        let refusal = host::hfsc_start_words(
+            &mut self.words,
+            &mut self.lengths,
+            tree,
+            stamp,
+            &mut fault,
+        );
+        self.started(refusal, fault)
+    }
 
-// As `arrive 0 number 1`.
-fn arrives(
-    rt: &(impl Print + Eprint),
-    words: &mut Words,
-    lengths: &mut Lengths,
-    stamp: u32,
-    class: u32,
-    length: u32,
-) -> io::Result<()>
-    requires { Reached words.old lengths.old }
-    ensures { Reached words.new lengths.new }
-{
-    let mut told: u64 = 64;
-    let refusal = host::hfsc_arrive(words, lengths, stamp, class, length, &mut told);
-    text(rt, b"arrive")?;
-    number(rt, refusal as u64)?;
-    text(rt, b" number")?;
-    number(rt, told)?;
-    text(rt, b"\n")
-}
+    fn start_file(&mut self, file: &[u8], stamp: u32) -> io::Result<()>
+        ensures { Reached self.new.words self.new.lengths }
+    {
+        let mut fault: u32 = 64;
+        let refusal = host::hfsc_start_file(
+            &mut self.words,
+            &mut self.lengths,
+            file,
+            stamp,
+            &mut fault,
+        );
+        self.started(refusal, fault)
+    }
 
-fn eight(rt: &(impl Print + Eprint), out: [u64; 8]) -> io::Result<()> {
-    text(rt, b" says")?;
-    number(rt, out[0])?;
-    number(rt, out[1])?;
-    number(rt, out[2])?;
-    number(rt, out[3])?;
-    number(rt, out[4])?;
-    number(rt, out[5])?;
-    number(rt, out[6])?;
-    number(rt, out[7])?;
-    text(rt, b"\n")
-}
+    // As `arrive 0 number 1`.
+    fn arrive(&mut self, stamp: u32, class: u32, length: u32) -> io::Result<()>
+        requires { Reached self.old.words self.old.lengths }
+        ensures { Reached self.new.words self.new.lengths }
+    {
+        let mut number: u64 = 64;
+        let refusal = host::hfsc_arrive(
+            &mut self.words,
+            &mut self.lengths,
+            stamp,
+            class,
+            length,
+            &mut number,
+        );
+        console::println(&self.rt, format_args!("arrive {refusal} number {number}"))
+    }
 
-// As `depart 0 says 1 1 0 500 1 1 50 1090`, in the order of the header.
-fn departs(
-    rt: &(impl Print + Eprint),
-    words: &mut Words,
-    lengths: &mut Lengths,
-    stamp: u32,
-) -> io::Result<()>
-    requires { Reached words.old lengths.old }
-    ensures { Reached words.new lengths.new }
-{
-    let mut out = [64u64; 8];
-    let refusal = host::hfsc_depart(words, lengths, stamp, &mut out);
-    text(rt, b"depart")?;
-    number(rt, refusal as u64)?;
-    eight(rt, out)
-}
+    // As `depart 0 says 1 1 0 500 1 1 50 1090`, in the order of the header.
+    fn depart(&mut self, stamp: u32) -> io::Result<()>
+        requires { Reached self.old.words self.old.lengths }
+        ensures { Reached self.new.words self.new.lengths }
+    {
+        let mut out = [64u64; 8];
+        let refusal = host::hfsc_depart(&mut self.words, &mut self.lengths, stamp, &mut out);
+        let [
+            leaves,
+            class,
+            number,
+            length,
+            rule,
+            timed,
+            eligible,
+            deadline,
+        ] = out;
+        console::println(
+            &self.rt,
+            format_args!(
+                "depart {refusal} says {leaves} {class} {number} {length} {rule} {timed} {eligible} {deadline}"
+            ),
+        )
+    }
 
-// As `clock 60 class 1 waiting 2 virtual 0 head 1 50 1090`.
-fn asks(rt: &(impl Print + Eprint), words: &Words, lengths: &Lengths, class: u32) -> io::Result<()>
-    requires { Reached words.now lengths.now }
-{
-    let mut out = [64u64; 3];
-    host::hfsc_head_times(words, lengths, class, &mut out);
-    text(rt, b"clock")?;
-    number(rt, host::hfsc_clock(words, lengths))?;
-    text(rt, b" class")?;
-    number(rt, class as u64)?;
-    text(rt, b" waiting")?;
-    number(rt, host::hfsc_waiting(words, lengths, class))?;
-    text(rt, b" virtual")?;
-    number(rt, host::hfsc_virtual_time(words, lengths, class))?;
-    text(rt, b" head")?;
-    number(rt, out[0])?;
-    number(rt, out[1])?;
-    number(rt, out[2])?;
-    text(rt, b"\n")
+    // As `clock 60 class 1 waiting 2 virtual 0 head 1 50 1090`.
+    fn ask(&self, class: u32) -> io::Result<()>
+        requires { Reached self.now.words self.now.lengths }
+    {
+        let mut head = [64u64; 3];
+        host::hfsc_head_times(&self.words, &self.lengths, class, &mut head);
+        let [timed, eligible, deadline] = head;
+        let clock = host::hfsc_clock(&self.words, &self.lengths);
+        let waiting = host::hfsc_waiting(&self.words, &self.lengths, class);
+        let virtual_time = host::hfsc_virtual_time(&self.words, &self.lengths, class);
+        console::println(
+            &self.rt,
+            format_args!(
+                "clock {clock} class {class} waiting {waiting} virtual {virtual_time} head {timed} {eligible} {deadline}"
+            ),
+        )
+    }
 }
 
 // Document 01's example tree as words, and three packets wait.
-fn three_wait(
-    rt: &(impl Print + Eprint),
-    words: &mut Words,
-    lengths: &mut Lengths,
-) -> io::Result<()>
-    ensures { Reached words.new lengths.new }
+fn three_wait(host: &mut Host<impl Print + Eprint>) -> io::Result<()>
+    ensures { Reached host.new.words host.new.lengths }
 {
     let tree = [
         3u32, 0, 65536, 0, 0, 0, 0, 0, 16384, 2, 32768, 2000, 16384, 0, 49152, 3, 2000, 32768, 0,
     ];
-    starts(rt, words, lengths, &tree, 100)?;
-    arrives(rt, words, lengths, 150, 1, 500)?;
-    arrives(rt, words, lengths, 150, 1, 500)?;
-    arrives(rt, words, lengths, 160, 2, 1000)?;
-    arrives(rt, words, lengths, 160, 3, 500)
+    host.start(&tree, 100)?;
+    host.arrive(150, 1, 500)?;
+    host.arrive(150, 1, 500)?;
+    host.arrive(160, 2, 1000)?;
+    host.arrive(160, 3, 500)
 }
 
-fn by_words(
-    rt: &(impl Print + Eprint),
-    words: &mut Words,
-    lengths: &mut Lengths,
-) -> io::Result<()> {
-    text(rt, b"# for hosts in C: a tree as words\n")?;
-    three_wait(rt, words, lengths)?;
-    asks(rt, words, lengths, 1)?;
-    asks(rt, words, lengths, 2)?;
-    departs(rt, words, lengths, 200)?;
-    asks(rt, words, lengths, 1)?;
-    asks(rt, words, lengths, 2)?;
-    departs(rt, words, lengths, 300)?;
-    departs(rt, words, lengths, 400)?;
-    departs(rt, words, lengths, 500)?;
-    departs(rt, words, lengths, 2147484148)?;
-    asks(rt, words, lengths, 1)?;
-    asks(rt, words, lengths, 2)
+fn by_words(host: &mut Host<impl Print + Eprint>) -> io::Result<()> {
+    console::println(&host.rt, "# for hosts in C: a tree as words")?;
+    three_wait(host)?;
+    host.ask(1)?;
+    host.ask(2)?;
+    host.depart(200)?;
+    host.ask(1)?;
+    host.ask(2)?;
+    host.depart(300)?;
+    host.depart(400)?;
+    host.depart(500)?;
+    host.depart(2147484148)?;
+    host.ask(1)?;
+    host.ask(2)
 }
 
 // The smallest straight tree in full, as document 01 has it.
-fn by_file(rt: &(impl Print + Eprint), words: &mut Words, lengths: &mut Lengths) -> io::Result<()> {
-    text(rt, b"# for hosts in C: a tree as a file\n")?;
-    starts_file(
-        rt,
-        words,
-        lengths,
+fn by_file(host: &mut Host<impl Print + Eprint>) -> io::Result<()> {
+    console::println(&host.rt, "# for hosts in C: a tree as a file")?;
+    host.start_file(
         b"\x01\x02\x03\x04\x00\x00\x00\x01\x00\x00\x00\x02\x00\x00\x00\x3C\x00\x00\x00\x20\x00\x00\x00\x0C\x00\x00\x00\x2C\x00\x00\x00\x10\x00\x00\x00\x00\x00\x01\x00\x00\x00\x00\x00\x00\x00\x00\x00\x00\x00\x01\x00\x00\x00\x00\x00\x01\x00\x01\x00\x00",
         7,
     )?;
-    arrives(rt, words, lengths, 7, 1, 500)?;
-    asks(rt, words, lengths, 1)
+    host.arrive(7, 1, 500)?;
+    host.ask(1)
 }
 
 // A class of kind 4, and a file of a few bytes.
-fn refused(rt: &(impl Print + Eprint), words: &mut Words, lengths: &mut Lengths) -> io::Result<()> {
-    text(rt, b"# for hosts in C: refused\n")?;
+fn refused(host: &mut Host<impl Print + Eprint>) -> io::Result<()> {
+    console::println(&host.rt, "# for hosts in C: refused")?;
     let kind = [2u32, 0, 65536, 0, 0, 0, 0, 0, 1, 4, 1, 0, 0];
-    starts(rt, words, lengths, &kind, 0)?;
-    starts_file(rt, words, lengths, b"short", 0)?;
-    arrives(rt, words, lengths, 0, 1, 500)
+    host.start(&kind, 0)?;
+    host.start_file(b"short", 0)?;
+    host.arrive(0, 1, 500)
 }
 
 // As `write 0 total 60 fault 0`.
@@ -187,18 +175,15 @@ fn writes(rt: &(impl Print + Eprint), tree: &[u32], out: &mut [u8]) -> io::Resul
     let mut total: u32 = 64;
     let mut fault: u32 = 64;
     let refusal = host::hfsc_write(tree, out, &mut total, &mut fault);
-    text(rt, b"write")?;
-    number(rt, refusal as u64)?;
-    text(rt, b" total")?;
-    number(rt, total as u64)?;
-    text(rt, b" fault")?;
-    number(rt, fault as u64)?;
-    text(rt, b"\n")
+    console::println(
+        rt,
+        format_args!("write {refusal} total {total} fault {fault}"),
+    )
 }
 
 // With just enough room, with a byte less, and a tree that is refused. What is written starts the scheduler.
 fn written(rt: &(impl Print + Eprint)) -> io::Result<()> {
-    text(rt, b"# for hosts in C: a tree written\n")?;
+    console::println(rt, "# for hosts in C: a tree written")?;
     let small = [2u32, 0, 65536, 0, 0, 0, 0, 0, 1, 1, 65536, 0, 0];
     let kind = [2u32, 0, 65536, 0, 0, 0, 0, 0, 1, 4, 1, 0, 0];
     let mut exact = [0u8; 60];
@@ -206,10 +191,8 @@ fn written(rt: &(impl Print + Eprint)) -> io::Result<()> {
     writes(rt, &small, &mut exact)?;
     writes(rt, &small, &mut less)?;
     writes(rt, &kind, &mut exact)?;
-    line(rt, b"byte 0 of the file", wide(exact[0]))?;
-    line(rt, b"byte 57 of the file", wide(exact[57]))
-}
-
-fn wide(b: u8) -> u64 {
-    b as u64
+    let first = exact[0];
+    let share = exact[57];
+    console::println(rt, format_args!("byte 0 of the file {first}"))?;
+    console::println(rt, format_args!("byte 57 of the file {share}"))
 }

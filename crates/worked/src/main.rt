@@ -3,7 +3,7 @@
 
 #![tactic(auto)]
 
-use state::table::{CELLS, PLACES};
+use calls::Scheduler;
 use std::io;
 
 mod asked;
@@ -17,13 +17,12 @@ mod stamps;
 mod trees;
 
 fn main(rt: HostRuntime) -> io::Result<()> {
-    let mut words = [0u64; CELLS];
-    let mut lengths = [0u16; PLACES];
-    rows::run(&rt, &mut words, &mut lengths)?;
-    stamps::run(&rt, &mut words, &mut lengths)?;
-    refusals::run(&rt, &mut words, &mut lengths)?;
-    choices::run(&rt, &mut words, &mut lengths)?;
-    asked::run(&rt, &mut words, &mut lengths)?;
+    let mut scheduler = Scheduler::new(&rt);
+    rows::run(&mut scheduler)?;
+    stamps::run(&mut scheduler)?;
+    refusals::run(&mut scheduler)?;
+    choices::run(&mut scheduler)?;
+    asked::run(&mut scheduler)?;
     curves::run(&rt)?;
-    hosts::run(&rt, &mut words, &mut lengths)
+    hosts::run(&rt)
 }

@@ -2,145 +2,108 @@
 // at which the link is free.
 ghost use Rattle.state.specs.State.{Reached};
 
-use crate::calls::{arrives, departs, starts, virtual_times};
+use crate::calls::Scheduler;
 use crate::trees;
-use console::text;
 use curve::Curve;
-use state::table::{Lengths, Words};
 use std::io;
 
-pub fn run(rt: &(impl Print + Eprint), words: &mut Words, lengths: &mut Lengths) -> io::Result<()> {
-    first_of_one(rt, words, lengths)?;
-    first_of_two(rt, words, lengths)?;
-    both_wait(rt, words, lengths)?;
-    later(rt, words, lengths)?;
-    instead(rt, words, lengths)?;
-    delayed_again(rt, words, lengths)?;
-    three(rt, words, lengths)?;
-    both_again(rt, words, lengths)?;
-    fits(rt, words, lengths)
+pub fn run(scheduler: &mut Scheduler<impl Print + Eprint>) -> io::Result<()> {
+    first_of_one(scheduler)?;
+    first_of_two(scheduler)?;
+    both_wait(scheduler)?;
+    later(scheduler)?;
+    instead(scheduler)?;
+    delayed_again(scheduler)?;
+    three(scheduler)?;
+    both_again(scheduler)?;
+    fits(scheduler)
 }
 
-fn first_of_one(
-    rt: &(impl Print + Eprint),
-    words: &mut Words,
-    lengths: &mut Lengths,
-) -> io::Result<()> {
-    text(rt, b"# leaf 1, first packet 500 at 0\n")?;
-    starts(rt, trees::tree_a(), 0, words, lengths)?;
-    arrives(rt, words, lengths, 0, 1, 500)?;
-    departs(rt, words, lengths, 0)
+fn first_of_one(scheduler: &mut Scheduler<impl Print + Eprint>) -> io::Result<()> {
+    scheduler.println("# leaf 1, first packet 500 at 0")?;
+    scheduler.start(trees::tree_a(), 0)?;
+    scheduler.arrive(0, 1, 500)?;
+    scheduler.depart(0)
 }
 
-fn first_of_two(
-    rt: &(impl Print + Eprint),
-    words: &mut Words,
-    lengths: &mut Lengths,
-) -> io::Result<()> {
-    text(rt, b"# leaf 2, first packet 1,000 at 0\n")?;
-    starts(rt, trees::tree_a(), 0, words, lengths)?;
-    arrives(rt, words, lengths, 0, 2, 1000)?;
-    departs(rt, words, lengths, 0)
+fn first_of_two(scheduler: &mut Scheduler<impl Print + Eprint>) -> io::Result<()> {
+    scheduler.println("# leaf 2, first packet 1,000 at 0")?;
+    scheduler.start(trees::tree_a(), 0)?;
+    scheduler.arrive(0, 2, 1000)?;
+    scheduler.depart(0)
 }
 
 // Leaf 1 has 500 and leaf 2 has 1,000 from tick 0 on, and both leave.
-fn both_sent(rt: &(impl Print + Eprint), words: &mut Words, lengths: &mut Lengths) -> io::Result<()>
-    ensures { Reached words.new lengths.new }
+fn both_sent(scheduler: &mut Scheduler<impl Print + Eprint>) -> io::Result<()>
+    ensures { Reached scheduler.new.words scheduler.new.lengths }
 {
-    starts(rt, trees::tree_a(), 0, words, lengths)?;
-    arrives(rt, words, lengths, 0, 1, 500)?;
-    arrives(rt, words, lengths, 0, 2, 1000)?;
-    departs(rt, words, lengths, 0)?;
-    departs(rt, words, lengths, 520)
+    scheduler.start(trees::tree_a(), 0)?;
+    scheduler.arrive(0, 1, 500)?;
+    scheduler.arrive(0, 2, 1000)?;
+    scheduler.depart(0)?;
+    scheduler.depart(520)
 }
 
-fn both_wait(
-    rt: &(impl Print + Eprint),
-    words: &mut Words,
-    lengths: &mut Lengths,
-) -> io::Result<()> {
-    text(rt, b"# both wait; departures at 0 and 520\n")?;
-    both_sent(rt, words, lengths)?;
-    virtual_times(rt, words, lengths, 1, 2)
+fn both_wait(scheduler: &mut Scheduler<impl Print + Eprint>) -> io::Result<()> {
+    scheduler.println("# both wait; departures at 0 and 520")?;
+    both_sent(scheduler)?;
+    scheduler.virtual_times(1, 2)
 }
 
-fn later(rt: &(impl Print + Eprint), words: &mut Words, lengths: &mut Lengths) -> io::Result<()> {
-    text(rt, b"# then leaf 1 gets 500 at 5,000\n")?;
-    both_sent(rt, words, lengths)?;
-    arrives(rt, words, lengths, 5000, 1, 500)?;
-    departs(rt, words, lengths, 5000)
+fn later(scheduler: &mut Scheduler<impl Print + Eprint>) -> io::Result<()> {
+    scheduler.println("# then leaf 1 gets 500 at 5,000")?;
+    both_sent(scheduler)?;
+    scheduler.arrive(5000, 1, 500)?;
+    scheduler.depart(5000)
 }
 
-fn instead(rt: &(impl Print + Eprint), words: &mut Words, lengths: &mut Lengths) -> io::Result<()> {
-    text(rt, b"# instead leaf 1 gets 500 at 600\n")?;
-    both_sent(rt, words, lengths)?;
-    arrives(rt, words, lengths, 600, 1, 500)?;
-    departs(rt, words, lengths, 1540)
+fn instead(scheduler: &mut Scheduler<impl Print + Eprint>) -> io::Result<()> {
+    scheduler.println("# instead leaf 1 gets 500 at 600")?;
+    both_sent(scheduler)?;
+    scheduler.arrive(600, 1, 500)?;
+    scheduler.depart(1540)
 }
 
-fn delayed_again(
-    rt: &(impl Print + Eprint),
-    words: &mut Words,
-    lengths: &mut Lengths,
-) -> io::Result<()> {
-    text(
-        rt,
-        b"# leaf 2 first waits at 0, sent 1,000 by the real-time rule; gets 1,000 at 1,000\n",
+fn delayed_again(scheduler: &mut Scheduler<impl Print + Eprint>) -> io::Result<()> {
+    scheduler.println(
+        "# leaf 2 first waits at 0, sent 1,000 by the real-time rule; gets 1,000 at 1,000",
     )?;
-    starts(rt, trees::tree_a(), 0, words, lengths)?;
-    arrives(rt, words, lengths, 0, 2, 1000)?;
-    departs(rt, words, lengths, 0)?;
-    arrives(rt, words, lengths, 1000, 2, 1000)?;
-    departs(rt, words, lengths, 2040)
+    scheduler.start(trees::tree_a(), 0)?;
+    scheduler.arrive(0, 2, 1000)?;
+    scheduler.depart(0)?;
+    scheduler.arrive(1000, 2, 1000)?;
+    scheduler.depart(2040)
 }
 
-fn three(rt: &(impl Print + Eprint), words: &mut Words, lengths: &mut Lengths) -> io::Result<()> {
-    text(
-        rt,
-        b"# leaf 1 alone, three of 500 at 0; departures 0, 520, 1,040\n",
-    )?;
-    starts(rt, trees::tree_a(), 0, words, lengths)?;
-    arrives(rt, words, lengths, 0, 1, 500)?;
-    arrives(rt, words, lengths, 0, 1, 500)?;
-    arrives(rt, words, lengths, 0, 1, 500)?;
-    departs(rt, words, lengths, 0)?;
-    departs(rt, words, lengths, 520)?;
-    departs(rt, words, lengths, 1040)
+fn three(scheduler: &mut Scheduler<impl Print + Eprint>) -> io::Result<()> {
+    scheduler.println("# leaf 1 alone, three of 500 at 0; departures 0, 520, 1,040")?;
+    scheduler.start(trees::tree_a(), 0)?;
+    scheduler.arrive(0, 1, 500)?;
+    scheduler.arrive(0, 1, 500)?;
+    scheduler.arrive(0, 1, 500)?;
+    scheduler.depart(0)?;
+    scheduler.depart(520)?;
+    scheduler.depart(1040)
 }
 
-fn both_again(
-    rt: &(impl Print + Eprint),
-    words: &mut Words,
-    lengths: &mut Lengths,
-) -> io::Result<()> {
-    text(
-        rt,
-        b"# both passive at 2,080 and 1,360; leaf 2 then leaf 1 turn active\n",
-    )?;
-    both_sent(rt, words, lengths)?;
-    arrives(rt, words, lengths, 5000, 2, 1000)?;
-    arrives(rt, words, lengths, 5000, 1, 500)?;
-    virtual_times(rt, words, lengths, 1, 2)
+fn both_again(scheduler: &mut Scheduler<impl Print + Eprint>) -> io::Result<()> {
+    scheduler.println("# both passive at 2,080 and 1,360; leaf 2 then leaf 1 turn active")?;
+    both_sent(scheduler)?;
+    scheduler.arrive(5000, 2, 1000)?;
+    scheduler.arrive(5000, 1, 500)?;
+    scheduler.virtual_times(1, 2)
 }
 
 // Starts a tree of two leaves with these curves.
 fn pair(
-    rt: &(impl Print + Eprint),
+    scheduler: &mut Scheduler<impl Print + Eprint>,
     first: Curve,
     second: Curve,
-    words: &mut Words,
-    lengths: &mut Lengths,
 ) -> io::Result<()> {
-    starts(
-        rt,
-        trees::pair(32768, first, 32768, second),
-        0,
-        words,
-        lengths,
-    )
+    scheduler.start(trees::pair(32768, first, 32768, second), 0)
 }
 
-fn fits(rt: &(impl Print + Eprint), words: &mut Words, lengths: &mut Lengths) -> io::Result<()> {
+fn fits(scheduler: &mut Scheduler<impl Print + Eprint>) -> io::Result<()> {
     let half = Curve::Straight { rate: 32768 };
     let more = Curve::Straight { rate: 32769 };
     let one = Curve::Straight { rate: 1 };
@@ -154,12 +117,12 @@ fn fits(rt: &(impl Print + Eprint), words: &mut Words, lengths: &mut Lengths) ->
         bend: 1,
         last: 1,
     };
-    text(rt, b"# straight 32,768 and 32,768\n")?;
-    pair(rt, half, half, words, lengths)?;
-    text(rt, b"# straight 32,769 and 32,768\n")?;
-    pair(rt, more, half, words, lengths)?;
-    text(rt, b"# front-loaded 65,535 / 1 / 1 with straight 1\n")?;
-    pair(rt, below, one, words, lengths)?;
-    text(rt, b"# front-loaded 65,536 / 1 / 1 with straight 1\n")?;
-    pair(rt, whole, one, words, lengths)
+    scheduler.println("# straight 32,768 and 32,768")?;
+    pair(scheduler, half, half)?;
+    scheduler.println("# straight 32,769 and 32,768")?;
+    pair(scheduler, more, half)?;
+    scheduler.println("# front-loaded 65,535 / 1 / 1 with straight 1")?;
+    pair(scheduler, below, one)?;
+    scheduler.println("# front-loaded 65,536 / 1 / 1 with straight 1")?;
+    pair(scheduler, whole, one)
 }

@@ -4,25 +4,21 @@ use tree::{Class, Tree};
 
 // The tree with one class more, while there is room.
 pub fn with(tree: Tree, parent: u32, share: u32, curve: Curve) -> Tree {
-    let at = tree.count as usize;
-    if 64 <= at {
-        return tree;
-    }
     let mut next = tree;
-    next.classes[at] = Class {
-        parent,
-        share,
-        curve,
-    };
-    next.count = tree.count + 1;
+    if let Some(class) = next.classes.get_mut(tree.count as usize) {
+        *class = Class {
+            parent,
+            share,
+            curve,
+        };
+        next.count += 1;
+    }
     next
 }
 
 // The tree with another count.
 pub fn counted(tree: Tree, count: u32) -> Tree {
-    let mut next = tree;
-    next.count = count;
-    next
+    Tree { count, ..tree }
 }
 
 // A root alone.

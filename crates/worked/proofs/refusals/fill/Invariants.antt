@@ -4,4 +4,4 @@ use Rattle.state.specs.State.{Reached}
 use Rattle.worked.proofs.refusals.fill.Given as goal
 
 abbrev pub invariant-loop-i : goal.invariant-loop-i
-invariant-loop-i g l = record { reached : Reached l.words l.lengths; counted : l.accepted ≤ l.i }
+invariant-loop-i g l = record { reached : Reached l.scheduler.words l.scheduler.lengths; counted : l.accepted ≤ l.i }

@@ -1,0 +1,5 @@
+use Rattle.state.specs.State.{Reached}
+use Rattle.bench.proofs.drive.Drive.twenty_arrive.Given as goal
+
+abbrev pub invariant-loop : goal.invariant-loop
+invariant-loop l = Reached l.self.words l.self.lengths
