@@ -20,10 +20,9 @@ use Rattle.state.specs.State.{Shows}
 use Rattle.state.specs.Heads.{EveryHistory}
 use Rattle.records.specs.declared.Record.{Record}
 use Rattle.records.specs.Records.{record_of}
-use Rattle.judge.specs.declared.Finding.{Finding}
-use Rattle.judge.specs.declared.Finding.TheVariants.{Holds}
-use Rattle.judge.specs.declared.Judgement.{Judgement}
-use Rattle.judge.specs.declared.Judgement.TheVariants.{Accepted, TreeRefused, Malformed}
+use Rattle.std.specs.Prelude.{Err}
+use Rattle.judge.specs.Kinds.{Finding, no_flaw, Judgement, accepted}
+use Rattle.judge.specs.declared.Rejection.TheVariants.{TreeRefused, Malformed}
 use Rattle.judge.specs.Judging.{RecordReplayed, holds, judgement_at, Judges, ended, right, wrong, short, LogJudged, refused, replayed}
 use Rattle.judge.specs.Promises.{ReplayRight, PartRight}
 use Rattle.judge.proofs.Replaying.{replayed_lawful}
@@ -71,7 +70,7 @@ module _ {h : History} {log : List ℕ} {k at : ℕ} {m l : List ℕ} (o : Onwar
     now : ReplayRight o.here (record_from log at) found m' l'
     now = replays o.here o.lawful o.shows
 
-    pub onward_next : found ≡ Holds → Onward h log (k + 1) (at + 4) m' l'
+    pub onward_next : found ≡ no_flaw → Onward h log (k + 1) (at + 4) m' l'
     onward_next e =
         let held = subst (λ (f : Finding). RecordReplayed o.here (record_from log at) f now.next) e now.replayed in
         record {
@@ -89,25 +88,25 @@ module _ {h : History} {log : List ℕ} {k at : ℕ} {m l : List ℕ} (o : Onwar
           shows = now.shows;
         }
 
-  pub onward_short : at < length log → length log - at < 4 → PartRight h log (Malformed k) m l
+  pub onward_short : at < length log → length log - at < 4 → PartRight h log (Err (Malformed k)) m l
   onward_short some few =
       record {
         next = o.here;
-        judges = o.decides (Malformed k) o.here (short (omega (arith, length-drop at log)) (omega (arith, length-drop at log)));
+        judges = o.decides (Err (Malformed k)) o.here (short (omega (arith, length-drop at log)) (omega (arith, length-drop at log)));
         shows = o.shows;
       }
 
-  pub onward_ended : at ≡ length log → PartRight h log Accepted m l
+  pub onward_ended : at ≡ length log → PartRight h log accepted m l
   onward_ended e =
       record {
         next = o.here;
-        judges = o.decides Accepted o.here (subst (λ (x : List ℕ). Judges o.here k x Accepted o.here) (sym (none_left (drop at log) (omega (arith, length-drop at log)))) ended);
+        judges = o.decides accepted o.here (subst (λ (x : List ℕ). Judges o.here k x accepted o.here) (sym (none_left (drop at log) (omega (arith, length-drop at log)))) ended);
         shows = o.shows;
       }
 
 -- the judgement of a whole log, from the promises of the start and of judging a part
 module _ {tree : Tree} {first : ℕ} {log m l : List ℕ} {answer : Verdict} (started : StartRight tree first answer m l) where
-  pub judged_refused : {why : Refusal} {class : ℕ} → answer ≡ at_fault why class → LogJudged tree first log (TreeRefused why class)
+  pub judged_refused : {why : Refusal} {class : ℕ} → answer ≡ at_fault why class → LogJudged tree first log (Err (TreeRefused why class))
   judged_refused e = refused (subst (λ (v : Verdict). Starts tree first v started.next) e started.starts)
 
   pub judged_replayed : {m' l' : List ℕ} {verdict : Judgement} → first < wheel → answer ≡ all_right → EveryHistory m l (λ h. PartRight h log verdict m' l') → LogJudged tree first log verdict

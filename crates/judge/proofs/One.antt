@@ -19,24 +19,22 @@ use Rattle.state.specs.Heads.{EveryHistory}
 use Rattle.state.proofs.ShowsOne.{shows_one}
 use Rattle.records.specs.declared.Record.{Record}
 use Rattle.records.specs.Records.{record_of}
-use Rattle.judge.specs.declared.Finding.{Finding}
-use Rattle.judge.specs.declared.Finding.TheVariants.{Holds}
-use Rattle.judge.specs.declared.Judgement.{Judgement}
-use Rattle.judge.specs.declared.Judgement.TheVariants.{Accepted, TreeRefused}
+use Rattle.judge.specs.Kinds.{Finding, no_flaw, Judgement, accepted}
+use Rattle.judge.specs.declared.Rejection.TheVariants.{TreeRefused}
 use Rattle.judge.specs.Judging.{RecordReplayed, holds, judgement_at, Judges, ended, right, wrong, short, LogJudged, refused, replayed}
 use Rattle.judge.specs.Promises.{ReplayRight, PartRight}
 use Rattle.judge.proofs.Replaying.{replayed_one, replayed_lawful}
 
 -- a record is right, or it is not
-right_or_wrong : {A : Type 0} (h x y : History) (f : Finding) → Lawful h → (r : Record) → RecordReplayed h r Holds x → RecordReplayed h r f y → holds f ≡ false → A
-right_or_wrong h x y f law r p q e = never refl (ap holds (replayed_one h law Holds f x y r p q).0 ∙ e)
+right_or_wrong : {A : Type 0} (h x y : History) (f : Finding) → Lawful h → (r : Record) → RecordReplayed h r no_flaw x → RecordReplayed h r f y → holds f ≡ false → A
+right_or_wrong h x y f law r p q e = never refl (ap holds (replayed_one h law no_flaw f x y r p q).0 ∙ e)
 
 pub judges_one : {h : History} {k : ℕ} {log : List ℕ} {v w : Judgement} {x y : History} → Lawful h → Judges h k log v x → Judges h k log w y → (v ≡ w) × (x ≡ y)
 judges_one law ended ended = (refl, refl)
 judges_one law ended (short some few) = absurd (omega arith)
 judges_one {h = h} {k = k} {w = w} {x = x} {y = y} law (right {after = a} {kind = c} {stamp = s} {class = j} {bytes = n} {log = log} p judges) (right {after = b} q judges') =
-    let same = (replayed_one h law Holds Holds a b (record_of c s j n) p q).1 in
-    judges_one {w = w} {y = y} (replayed_lawful h law (record_of c s j n) Holds a p) judges (subst (λ (z : History). Judges z (k + 1) log w y) (sym same) judges')
+    let same = (replayed_one h law no_flaw no_flaw a b (record_of c s j n) p q).1 in
+    judges_one {w = w} {y = y} (replayed_lawful h law (record_of c s j n) no_flaw a p) judges (subst (λ (z : History). Judges z (k + 1) log w y) (sym same) judges')
 judges_one {h = h} {y = y} law (right {after = a} {kind = c} {stamp = s} {class = j} {bytes = n} p judges) (wrong f q e) =
     right_or_wrong h a y f law (record_of c s j n) p q e
 judges_one law (right p judges) (short some few) = absurd (omega arith)
@@ -61,8 +59,8 @@ clash e = never refl (ap is_refused e)
 
 -- what a verdict on the tree is told as, where it decides
 abbrev pub told_of : Verdict → Judgement
-told_of (Ok _) = Accepted
-told_of (Err fault) = TreeRefused fault.why fault.class
+told_of (Ok _) = accepted
+told_of (Err fault) = Err (TreeRefused fault.why fault.class)
 
 -- the promise of judging a whole log
 pub judge_one : (tree : Tree) (first : ℕ) (log : List ℕ) (v w : Judgement) → first < wheel → LogJudged tree first log v → LogJudged tree first log w → v ≡ w

@@ -3,35 +3,27 @@
 use Prim.Native.Nat.{ℕ, ◌+◌, ◌-◌, ◌*◌}
 use native.Mathlib.Omega.{arith}
 use mathlib.Core.Path.{◌≡◌, refl, sym, ap, subst}
-use mathlib.Core.Bool.{Bool, true, false}
+use mathlib.Core.Bool.{false}
 use mathlib.Core.List.{List, [], ◌∷◌, ◌++◌}
 use lib.ListN.{length}
 use Rattle.rules.specs.Calls.{History}
 use Rattle.rules.proofs.Tests.{never}
-use Rattle.judge.specs.declared.Finding.{Finding}
-use Rattle.judge.specs.declared.Finding.TheVariants.{Holds, Malformed, Refused, Another}
-use Rattle.judge.specs.declared.Judgement.{Judgement}
-use Rattle.judge.specs.declared.Judgement.TheVariants.{Accepted}
-use Rattle.judge.specs.declared.Judgement.TheVariants as judgement
+use Rattle.std.specs.Prelude.{Ok, Err}
+use Rattle.judge.specs.Kinds.{Finding, Judgement, accepted}
+use Rattle.judge.specs.declared.Flaw.TheVariants.{Malformed, Refused, Another}
 use Rattle.judge.specs.Judging.{holds, judgement_at, Judges, ended, right, wrong, short, LogJudged, refused, replayed}
+use Rattle.judge.proofs.Replaying.{is_accepted}
 use Rattle.judge.specs.Theorems.{CutAccepted, InParts, PartsAccepted, AcceptedParts, PartsJudged, FirstPartJudged}
 
-abbrev is_accepted : Judgement → Bool
-is_accepted Accepted = true
-is_accepted (judgement.TreeRefused why class) = false
-is_accepted (judgement.Malformed k) = false
-is_accepted (judgement.Refused k why) = false
-is_accepted (judgement.AnotherChoice k ours) = false
-
 -- a log with a wrong record is not accepted
-pub wrong_named : {A : Type 0} (k : ℕ) (f : Finding) → holds f ≡ false → judgement_at k f ≡ Accepted → A
-wrong_named k Holds e a = never refl e
-wrong_named k Malformed e a = never refl (sym (ap is_accepted a))
-wrong_named k (Refused why) e a = never refl (sym (ap is_accepted a))
-wrong_named k (Another ours) e a = never refl (sym (ap is_accepted a))
+pub wrong_named : {A : Type 0} (k : ℕ) (f : Finding) → holds f ≡ false → judgement_at k f ≡ accepted → A
+wrong_named k (Ok _) e a = never refl e
+wrong_named k (Err Malformed) e a = never refl (sym (ap is_accepted a))
+wrong_named k (Err (Refused why)) e a = never refl (sym (ap is_accepted a))
+wrong_named k (Err (Another ours)) e a = never refl (sym (ap is_accepted a))
 
 -- the judgement is the second part's where the first is accepted
-then_judged : {h between next : History} {k : ℕ} {front rest : List ℕ} {u v : Judgement} (r : ℕ) → length front ≡ 4 * r → u ≡ Accepted
+then_judged : {h between next : History} {k : ℕ} {front rest : List ℕ} {u v : Judgement} (r : ℕ) → length front ≡ 4 * r → u ≡ accepted
     → Judges h k front u between → Judges between (k + r) rest v next → Judges h k (front ++ rest) v next
 then_judged {next = next} {k = k} {rest = rest} {v = v} r size a (ended {h = h}) second =
     let same : k + r ≡ k = omega arith in
@@ -46,10 +38,10 @@ pub parts_judged : PartsJudged
 parts_judged h k r front rest v next size parts = then_judged r size refl parts.first parts.second
 
 pub parts_accepted : PartsAccepted
-parts_accepted h k r front rest next size parts = parts_judged h k r front rest Accepted next size parts
+parts_accepted h k r front rest next size parts = parts_judged h k r front rest accepted next size parts
 
 -- and the first part's where it is not
-first_judged : {h next : History} {k : ℕ} {front : List ℕ} {v : Judgement} (r : ℕ) (rest : List ℕ) → length front ≡ 4 * r → (v ≡ Accepted → ⊥)
+first_judged : {h next : History} {k : ℕ} {front : List ℕ} {v : Judgement} (r : ℕ) (rest : List ℕ) → length front ≡ 4 * r → (v ≡ accepted → ⊥)
     → Judges h k front v next → Judges h k (front ++ rest) v next
 first_judged r rest size n ended = absurd (n refl)
 first_judged r rest size n (right p judges) = right p (first_judged (r - 1) rest (omega arith) n judges)
@@ -61,7 +53,7 @@ first_part_judged h k r front rest v next size n judges = first_judged r rest si
 
 -- an accepted log, in its parts
 module _ {next : History} {rest : List ℕ} where
-  in_parts : {h : History} {k : ℕ} {v : Judgement} (r : ℕ) (front : List ℕ) → length front ≡ 4 * r → v ≡ Accepted → Judges h k (front ++ rest) v next
+  in_parts : {h : History} {k : ℕ} {v : Judgement} (r : ℕ) (front : List ℕ) → length front ≡ 4 * r → v ≡ accepted → Judges h k (front ++ rest) v next
       → InParts h k r front rest v next
   in_parts {h} {k} {v} r [] size a judges =
       let same : k ≡ k + r = omega arith in
@@ -86,6 +78,6 @@ accepted_parts h k r front rest next size judges = in_parts r front size refl ju
 pub cut_accepted : CutAccepted
 cut_accepted tree first r front rest size judged = cut judged refl
   where
-    cut : {v : Judgement} → LogJudged tree first (front ++ rest) v → v ≡ Accepted → LogJudged tree first front Accepted
+    cut : {v : Judgement} → LogJudged tree first (front ++ rest) v → v ≡ accepted → LogJudged tree first front accepted
     cut (refused s) e = never refl (sym (ap is_accepted e))
     cut (replayed s judges) e = replayed s (in_parts r front size e judges).first

@@ -3,7 +3,7 @@
 use Rattle.rules.specs.Kinds.{Arrival, Departure}
 use Prim.Native.Nat.{ℕ}
 use mathlib.Core.Path.{◌≡◌, refl, sym, ap, ◌∙◌}
-use mathlib.Core.Bool.{false}
+use mathlib.Core.Bool.{Bool, true, false}
 use mathlib.Core.List.{List}
 use Rattle.rules.specs.Calls.{History}
 use Rattle.rules.specs.Lawful.{Lawful}
@@ -12,9 +12,12 @@ use Rattle.state.specs.State.{Shows}
 use Rattle.sched.specs.Promises.{ArriveRight, DepartRight}
 use Rattle.records.specs.declared.Record.{Record}
 use Rattle.records.specs.declared.Record.TheVariants.{Arrived, Departed, FoundEmpty, Malformed}
-use Rattle.judge.specs.declared.Finding.{Finding}
-use Rattle.judge.specs.declared.Finding.TheVariants as finding
-use Rattle.judge.specs.Judging.{holds, arrival_finding, departure_finding, empty_finding, DepartureReplayed, RecordReplayed}
+use Rattle.std.specs.Prelude.{Ok, Err}
+use Rattle.rules.proofs.Tests.{never}
+use Rattle.judge.specs.declared.Rejection.{Rejection}
+use Rattle.judge.specs.Kinds.{Finding, no_flaw, Judgement}
+use Rattle.judge.specs.declared.Flaw.TheVariants as flaw
+use Rattle.judge.specs.Judging.{holds, judgement_at, arrival_finding, departure_finding, empty_finding, DepartureReplayed, RecordReplayed}
 use Rattle.judge.specs.Promises.{ReplayRight}
 
 module _ {h : History} {m l : List ℕ} {found : Finding} where
@@ -29,7 +32,7 @@ module _ {h : History} {m l : List ℕ} {found : Finding} where
   pub empty_replayed : {stamp : ℕ} {answer : Departure} → DepartRight h stamp answer m l → found ≡ empty_finding answer → ReplayRight h (FoundEmpty stamp) found m l
   empty_replayed {answer = a} right e = record { next = right.next; replayed = record { answer = a; departs = right.departs; finds = e }; shows = right.shows }
 
-pub malformed_replayed : {h : History} {m l : List ℕ} → Shows m l h → ReplayRight h Malformed finding.Malformed m l
+pub malformed_replayed : {h : History} {m l : List ℕ} → Shows m l h → ReplayRight h Malformed (Err flaw.Malformed) m l
 malformed_replayed {h = h} shows = record { next = h; replayed = (refl, refl); shows = shows }
 
 -- a lawful history stays lawful
@@ -54,9 +57,17 @@ module _ (h : History) (law : Lawful h) (f g : Finding) (x y : History) where
   replayed_one (FoundEmpty stamp) p q = departure_one stamp empty_finding p q
   replayed_one Malformed p q = (p.0 ∙ sym q.0, p.1 ∙ sym q.1)
 
--- a finding that is another than the right one
-pub not_holds : (f : Finding) → (f ≡ finding.Holds → ⊥) → holds f ≡ false
-not_holds finding.Holds n = absurd (n refl)
-not_holds finding.Malformed n = refl
-not_holds (finding.Refused why) n = refl
-not_holds (finding.Another ours) n = refl
+abbrev pub is_accepted : Judgement → Bool
+is_accepted (Ok _) = true
+is_accepted (Err rejection) = false
+
+-- a record at which the judging goes on is right, and one that is named is not
+pub not_named : {u : Unit} (k : ℕ) (f : Finding) → judgement_at k f ≡ Ok u → f ≡ no_flaw
+not_named k (Ok _) e = refl
+not_named k (Err flaw.Malformed) e = never refl (sym (ap is_accepted e))
+not_named k (Err (flaw.Refused why)) e = never refl (sym (ap is_accepted e))
+not_named k (Err (flaw.Another ours)) e = never refl (sym (ap is_accepted e))
+
+pub named_wrong : {r : Rejection} (k : ℕ) (f : Finding) → judgement_at k f ≡ Err r → holds f ≡ false
+named_wrong k (Ok _) e = never refl (ap is_accepted e)
+named_wrong k (Err flaw) e = refl

@@ -4,8 +4,7 @@ use Rattle.std.specs.Prelude.{ℕ, List}
 use Rattle.rules.specs.Calls.{History}
 use Rattle.records.specs.declared.Record.{Record}
 use Rattle.state.specs.State.{Shows}
-use Rattle.judge.specs.declared.Finding.{Finding}
-use Rattle.judge.specs.declared.Judgement.{Judgement}
+use Rattle.judge.specs.Kinds.{Finding, Judgement}
 use Rattle.judge.specs.Judging.{RecordReplayed, Judges}
 
 -- of one record after the history h

@@ -13,23 +13,19 @@ ghost use Rattle.judge.specs.Promises.{ReplayRight, PartRight};
 use records::Record;
 use rules::Packet;
 use state::table::{CELLS, Lengths, PLACES, Words};
-use tree::{Refusal, Tree};
+use tree::{Fault, Refusal, Tree};
 
-// Stays: a record is found to be one of four things that the request lists, of which only the first is no fault: `?` on it would end the judging without the record's number.
-// What a record is found to be. `ours` is what our rules send, if they send one, where the record has another.
+// What is wrong with a record. `ours` is what our rules send, if they send one, where the record has another.
 #[derive(Clone, Copy, PartialEq, Eq)]
-pub enum Finding {
-    Holds,
+pub enum Flaw {
     Malformed,
     Refused { why: Refusal },
     Another { ours: Option<Packet> },
 }
 
-// Stays: the request lists these five judgements, numbered from 0, and none of them is an error of judging.
-// What a log is judged as: accepted, the refusal of its tree, or its first wrong record, counted from 0.
+// Why a log is not accepted: the refusal of its tree, or its first wrong record, counted from 0.
 #[derive(Clone, Copy, PartialEq, Eq)]
-pub enum Judgement {
-    Accepted,
+pub enum Rejection {
     TreeRefused { why: Refusal, class: u32 },
     Malformed { record: u64 },
     Refused { record: u64, why: Refusal },
@@ -37,22 +33,19 @@ pub enum Judgement {
 }
 
 // Judges a whole log, replayed from the tree with that first stamp.
-pub fn judge(tree: Tree, first: u32, log: &[u32]) -> Judgement
+pub fn judge(tree: Tree, first: u32, log: &[u32]) -> Result<(), Rejection>
     ensures { LogJudged tree first log.now result }
 {
     let mut words = [0u64; CELLS];
     let mut lengths = [0u16; PLACES];
-    if let Err(fault) = sched::start(tree, first, &mut words, &mut lengths) {
-        return Judgement::TreeRefused {
-            why: fault.why,
-            class: fault.class,
-        };
+    if let Err(Fault { why, class }) = sched::start(tree, first, &mut words, &mut lengths) {
+        return Err(Rejection::TreeRefused { why, class });
     }
     judge_part(&mut words, &mut lengths, log)
 }
 
 // Judges a part of a log from the state that the records before it have come to.
-pub fn judge_part(words: &mut Words, lengths: &mut Lengths, log: &[u32]) -> Judgement
+pub fn judge_part(words: &mut Words, lengths: &mut Lengths, log: &[u32]) -> Result<(), Rejection>
     requires { Reached words.old lengths.old }
     ensures right { EveryHistory words.old lengths.old (λ h. PartRight h log.now result words.new lengths.new) }
     ensures reached { Reached words.new lengths.new }
@@ -60,16 +53,14 @@ pub fn judge_part(words: &mut Words, lengths: &mut Lengths, log: &[u32]) -> Judg
     let records = log.len() / 4;
     for record in 0..records {
         let finding = replay(words, lengths, record_at(log, 4 * record));
-        let Finding::Holds = finding else {
-            return name(record as u64, finding);
-        };
+        name(record as u64, finding)?;
     }
     if 4 * records < log.len() {
-        return Judgement::Malformed {
+        return Err(Rejection::Malformed {
             record: records as u64,
-        };
+        });
     }
-    Judgement::Accepted
+    Ok(())
 }
 
 // The record whose four numbers start there.
@@ -81,7 +72,7 @@ fn record_at(log: &[u32], at: usize) -> Record
 }
 
 // Replays one record, and finds what it is.
-pub fn replay(words: &mut Words, lengths: &mut Lengths, said: Record) -> Finding
+pub fn replay(words: &mut Words, lengths: &mut Lengths, said: Record) -> Result<(), Flaw>
     requires { Reached words.old lengths.old }
     ensures right { EveryHistory words.old lengths.old (λ h. ReplayRight h said result words.new lengths.new) }
     ensures reached { Reached words.new lengths.new }
@@ -98,52 +89,59 @@ pub fn replay(words: &mut Words, lengths: &mut Lengths, said: Record) -> Finding
             length,
         } => of_departure(sched::depart(words, lengths, stamp), class, length),
         Record::FoundEmpty { stamp } => of_empty(sched::depart(words, lengths, stamp)),
-        Record::Malformed => Finding::Malformed,
+        Record::Malformed => Err(Flaw::Malformed),
     }
 }
 
-fn of_arrival(answer: Result<u64, Refusal>) -> Finding
+fn of_arrival(answer: Result<u64, Refusal>) -> Result<(), Flaw>
     ensures { result ≡ arrival_finding answer }
 {
     if let Err(why) = answer {
-        return Finding::Refused { why };
+        return Err(Flaw::Refused { why });
     }
-    Finding::Holds
+    Ok(())
 }
 
 // A departure that, as the log has it, sent a packet of that class and length.
-fn of_departure(answer: Result<Option<Packet>, Refusal>, class: u32, length: u32) -> Finding
+fn of_departure(
+    answer: Result<Option<Packet>, Refusal>,
+    class: u32,
+    length: u32,
+) -> Result<(), Flaw>
     ensures { result ≡ departure_finding class «length» answer }
 {
     let ours = match answer {
         Ok(ours) => ours,
-        Err(why) => return Finding::Refused { why },
+        Err(why) => return Err(Flaw::Refused { why }),
     };
-    match ours {
-        Some(packet) if packet.class == class && packet.length == length => Finding::Holds,
-        _ => Finding::Another { ours },
+    let Some(packet) = ours else {
+        return Err(Flaw::Another { ours });
+    };
+    if packet.class != class || packet.length != length {
+        return Err(Flaw::Another { ours });
     }
+    Ok(())
 }
 
 // A departure that, as the log has it, found none waiting.
-fn of_empty(answer: Result<Option<Packet>, Refusal>) -> Finding
+fn of_empty(answer: Result<Option<Packet>, Refusal>) -> Result<(), Flaw>
     ensures { result ≡ empty_finding answer }
 {
     match answer {
-        Ok(None) => Finding::Holds,
-        Ok(ours) => Finding::Another { ours },
-        Err(why) => Finding::Refused { why },
+        Ok(None) => Ok(()),
+        Ok(ours) => Err(Flaw::Another { ours }),
+        Err(why) => Err(Flaw::Refused { why }),
     }
 }
 
-// The judgement on a log whose first wrong record is that one.
-pub fn name(record: u64, finding: Finding) -> Judgement
+// What a log is judged as at the record with that number, which is found to be that.
+pub fn name(record: u64, finding: Result<(), Flaw>) -> Result<(), Rejection>
     ensures { result ≡ judgement_at «record» finding }
 {
     match finding {
-        Finding::Holds => Judgement::Accepted,
-        Finding::Malformed => Judgement::Malformed { record },
-        Finding::Refused { why } => Judgement::Refused { record, why },
-        Finding::Another { ours } => Judgement::AnotherChoice { record, ours },
+        Ok(()) => Ok(()),
+        Err(Flaw::Malformed) => Err(Rejection::Malformed { record }),
+        Err(Flaw::Refused { why }) => Err(Rejection::Refused { record, why }),
+        Err(Flaw::Another { ours }) => Err(Rejection::AnotherChoice { record, ours }),
     }
 }

@@ -7,7 +7,7 @@ use Rattle.tree.specs.declared.Tree.{Tree}
 use Rattle.tree.specs.Verdicts.{all_right}
 use Rattle.file.proofs.ReadOne.{reads_one}
 use Rattle.rules.specs.Limits.{wheel}
-use Rattle.judge.specs.declared.Judgement.{Judgement}
+use Rattle.judge.specs.Kinds.{Judgement}
 use Rattle.judge.specs.Judging.{LogJudged}
 use Rattle.judge.proofs.One.{judge_one, clash, told_of}
 use Rattle.judgefile.specs.Promises.{LogJudgedByFile, unread, read, judgement_number, judgement_numbers, JudgeTold}

@@ -2,28 +2,28 @@
 -- nothing to say.
 -- Assumes nothing.
 use Rattle.rules.specs.declared.Packet.{Packet}
-use Rattle.std.specs.Prelude.{ℕ, ◌≡◌, List, [], ◌∷◌, Option, Some, None}
+use Rattle.std.specs.Prelude.{ℕ, ◌≡◌, List, [], ◌∷◌, Option, Some, None, Ok, Err}
 use Rattle.tree.specs.declared.Tree.{Tree}
 use Rattle.tree.specs.declared.Refusal.{Refusal}
 use Rattle.tree.specs.Verdicts.{all_right, refused}
 use Rattle.tree.specs.Numbers.{number_of}
 use Rattle.file.specs.Format.{ReadsAs}
-use Rattle.judge.specs.declared.Judgement.{Judgement}
-use Rattle.judge.specs.declared.Judgement.TheVariants.{Accepted, TreeRefused, Malformed, Refused, AnotherChoice}
+use Rattle.judge.specs.Kinds.{Judgement}
+use Rattle.judge.specs.declared.Rejection.TheVariants.{TreeRefused, Malformed, Refused, AnotherChoice}
 use Rattle.judge.specs.Judging.{LogJudged}
 
 -- a refused file is told as a refused tree, "before any record is read"
 pub data LogJudgedByFile (file : List ℕ) (first : ℕ) (log : List ℕ) : Judgement → Type 0 where
-  unread : {why : Refusal} {class : ℕ} {tree : Tree} → ReadsAs file (refused why class) tree → LogJudgedByFile file first log (TreeRefused why class)
+  unread : {why : Refusal} {class : ℕ} {tree : Tree} → ReadsAs file (refused why class) tree → LogJudgedByFile file first log (Err (TreeRefused why class))
   read : {tree : Tree} {judgement : Judgement} → ReadsAs file all_right tree → LogJudged tree first log judgement → LogJudgedByFile file first log judgement
 
 -- what the call answers
 abbrev pub judgement_number : Judgement → ℕ
-judgement_number Accepted = 0
-judgement_number (TreeRefused why class) = 1
-judgement_number (Malformed k) = 2
-judgement_number (Refused k why) = 3
-judgement_number (AnotherChoice k ours) = 4
+judgement_number (Ok _) = 0
+judgement_number (Err (TreeRefused why class)) = 1
+judgement_number (Err (Malformed k)) = 2
+judgement_number (Err (Refused k why)) = 3
+judgement_number (Err (AnotherChoice k ours)) = 4
 
 -- of another choice: the record, whether our rules send a packet, and its class and length
 abbrev pub ours_numbers : ℕ → Option Packet → List ℕ
@@ -32,11 +32,11 @@ ours_numbers k None = k ∷ 0 ∷ 0 ∷ 0 ∷ []
 
 -- what it writes: the record, "whether it was malformed, refused (with the number), or another choice"; of a refused tree the number and the class
 abbrev pub judgement_numbers : Judgement → List ℕ
-judgement_numbers Accepted = 0 ∷ 0 ∷ 0 ∷ 0 ∷ []
-judgement_numbers (TreeRefused why class) = 0 ∷ number_of why ∷ class ∷ 0 ∷ []
-judgement_numbers (Malformed k) = k ∷ 0 ∷ 0 ∷ 0 ∷ []
-judgement_numbers (Refused k why) = k ∷ number_of why ∷ 0 ∷ 0 ∷ []
-judgement_numbers (AnotherChoice k ours) = ours_numbers k ours
+judgement_numbers (Ok _) = 0 ∷ 0 ∷ 0 ∷ 0 ∷ []
+judgement_numbers (Err (TreeRefused why class)) = 0 ∷ number_of why ∷ class ∷ 0 ∷ []
+judgement_numbers (Err (Malformed k)) = k ∷ 0 ∷ 0 ∷ 0 ∷ []
+judgement_numbers (Err (Refused k why)) = k ∷ number_of why ∷ 0 ∷ 0 ∷ []
+judgement_numbers (Err (AnotherChoice k ours)) = ours_numbers k ours
 
 pub record JudgeTold (file : List ℕ) (first : ℕ) (log : List ℕ) (said : ℕ) (out : List ℕ) : Type 0 where
   pub answer : Judgement

@@ -5,7 +5,7 @@
 ghost use Rattle.std.specs.Prelude.{◌≡◌};
 ghost use Rattle.judgefile.specs.Promises.{LogJudgedByFile, judgement_number, judgement_numbers, ours_numbers, JudgeTold};
 
-use judge::Judgement;
+use judge::Rejection;
 use rules::Packet;
 use tree::Fault;
 
@@ -20,39 +20,44 @@ pub fn judge_file(file: &[u8], first: u32, log: &[u32], out: &mut [u64; 4]) -> u
 }
 
 // A refused file is told as a refused tree.
-fn judged(file: &[u8], first: u32, log: &[u32]) -> Judgement
+fn judged(file: &[u8], first: u32, log: &[u32]) -> Result<(), Rejection>
     ensures { LogJudgedByFile file.now first log.now result }
 {
     let tree = match file::reader::read(file) {
         Ok(tree) => tree,
-        Err(Fault { why, class }) => return Judgement::TreeRefused { why, class },
+        Err(Fault { why, class }) => return Err(Rejection::TreeRefused { why, class }),
     };
     judge::judge(tree, first, log)
 }
 
 // Stays: a judgement's number and its four numbers are the C interface.
-fn number(judgement: Judgement) -> u32
+fn number(judgement: Result<(), Rejection>) -> u32
     ensures { result ≡ judgement_number judgement }
 {
     match judgement {
-        Judgement::Accepted => 0,
-        Judgement::TreeRefused { .. } => 1,
-        Judgement::Malformed { .. } => 2,
-        Judgement::Refused { .. } => 3,
-        Judgement::AnotherChoice { .. } => 4,
+        Ok(()) => 0,
+        Err(Rejection::TreeRefused { .. }) => 1,
+        Err(Rejection::Malformed { .. }) => 2,
+        Err(Rejection::Refused { .. }) => 3,
+        Err(Rejection::AnotherChoice { .. }) => 4,
     }
 }
 
 // 0 wherever there is nothing to say.
-fn numbers(judgement: Judgement) -> [u64; 4]
+fn numbers(judgement: Result<(), Rejection>) -> [u64; 4]
     ensures { result ≡ judgement_numbers judgement }
 {
     match judgement {
-        Judgement::Accepted => [0; 4],
-        Judgement::TreeRefused { why, class } => [0, tree::number(why) as u64, class as u64, 0],
-        Judgement::Malformed { record } => [record, 0, 0, 0],
-        Judgement::Refused { record, why } => [record, tree::number(why) as u64, 0, 0],
-        Judgement::AnotherChoice { record, ours } => ours_numbers(record, ours),
+        Ok(()) => [0; 4],
+        Err(Rejection::TreeRefused { why, class }) => [
+            0,
+            tree::number(why) as u64,
+            class as u64,
+            0,
+        ],
+        Err(Rejection::Malformed { record }) => [record, 0, 0, 0],
+        Err(Rejection::Refused { record, why }) => [record, tree::number(why) as u64, 0, 0],
+        Err(Rejection::AnotherChoice { record, ours }) => ours_numbers(record, ours),
     }
 }
 

@@ -4,10 +4,7 @@ use Rattle.std.proofs.Common.{◌≡◌, ℕ, ◌+◌, ◌*◌, ◌^◌, ◌<◌
 use Rattle.rules.specs.Calls.{History}
 use Rattle.rules.proofs.Tests.{never}
 use Rattle.records.specs.Records.{record_of}
-use Rattle.judge.specs.declared.Finding.{Finding}
-use Rattle.judge.specs.declared.Finding.TheVariants as finding
-use Rattle.judge.specs.declared.Judgement.{Judgement}
-use Rattle.judge.specs.declared.Judgement.TheVariants.{Accepted}
+use Rattle.judge.specs.Kinds.{Finding, no_flaw, Judgement, accepted}
 use Rattle.judge.specs.Judging.{RecordReplayed, holds, judgement_at, Judges, ended, right, wrong, short}
 use Rattle.judge.proofs.Parts.{parts_judged, first_part_judged, wrong_named}
 use Rattle.logtext.specs.declared.Scan.{Scan}
@@ -32,7 +29,7 @@ record Sofar (h : History) (front : List ℕ) (at : Progress) (now : History) : 
   whole : List ℕ
   numbers : numbers_of before_text front ≡ whole ++ held_numbers at.held
   size : length whole ≡ 4 * at.records
-  judges : Judges h 0 whole Accepted now
+  judges : Judges h 0 whole accepted now
   few : at.records ≤ length front
 
 -- the record after so many is numbered so
@@ -119,10 +116,10 @@ module _ {h now : History} {front : List ℕ} {at : Progress} (o : Sofar h front
       numbers_whole : numbers_of before_text on ≡ o.whole ++ last
       numbers_whole = numbers_on (Ok (Some n)) e ∙ ap (λ (x : Held). o.whole ++ (held_numbers x ++ (n ∷ []))) held
 
-      on_right : (next : History) → length on < 2 ^ 64 → RecordReplayed now (record_of kind stamp class n) finding.Holds next → Sofar h on (completed (moved at b) finding.Holds) next
+      on_right : (next : History) → length on < 2 ^ 64 → RecordReplayed now (record_of kind stamp class n) no_flaw next → Sofar h on (completed (moved at b) no_flaw) next
       on_right next small replayed =
           let one : one_more at.records ≡ at.records + 1 = omega (arith, o.few, longer_by_one) in
-          let judged : Judges now (0 + at.records) last Accepted next = right {after = next} {kind = kind} {stamp = stamp} {class = class} {bytes = n} replayed ended in
+          let judged : Judges now (0 + at.records) last accepted next = right {after = next} {kind = kind} {stamp = stamp} {class = class} {bytes = n} replayed ended in
           record {
             stands = refl;
             scans = scans_on;
@@ -130,7 +127,7 @@ module _ {h now : History} {front : List ℕ} {at : Progress} (o : Sofar h front
             whole = o.whole ++ last;
             numbers = numbers_whole ∙ sym (append-nil (o.whole ++ last));
             size = length-append o.whole last ∙ omega (arith, o.size, one);
-            judges = parts_judged h 0 at.records o.whole last Accepted next o.size (record { between = now; first = o.judges; second = judged });
+            judges = parts_judged h 0 at.records o.whole last accepted next o.size (record { between = now; first = o.judges; second = judged });
             few = omega (arith, o.few, longer_by_one, one);
           }
 
@@ -194,10 +191,8 @@ module _ {h : History} where
 
     completes : (n kind stamp class : ℕ) → seen_at at.scan b ≡ Ok (Some n) → at.held ≡ Class kind stamp class → (f : Finding)
         → RecordReplayed now (record_of kind stamp class n) f between → mid ≡ completed (moved at b) f → Means h (front ++ (b ∷ rest)) after.standing after next
-    completes n kind stamp class e held finding.Holds replayed is = means_rest (rw is (on_right o b n e kind stamp class held between small_more replayed))
-    completes n kind stamp class e held finding.Malformed replayed is = means_wrong n kind stamp class e held finding.Malformed replayed refl is
-    completes n kind stamp class e held (finding.Refused why) replayed is = means_wrong n kind stamp class e held (finding.Refused why) replayed refl is
-    completes n kind stamp class e held (finding.Another ours) replayed is = means_wrong n kind stamp class e held (finding.Another ours) replayed refl is
+    completes n kind stamp class e held (Ok _) replayed is = means_rest (rw is (on_right o b n e kind stamp class held between small_more replayed))
+    completes n kind stamp class e held (Err flaw) replayed is = means_wrong n kind stamp class e held (Err flaw) replayed refl is
 
     takes : (n : ℕ) → seen_at at.scan b ≡ Ok (Some n) → (held : Held) → at.held ≡ held → TakesTo now held (moved at b) n mid between
         → Means h (front ++ (b ∷ rest)) after.standing after next

@@ -3,7 +3,7 @@
 use Rattle.std.proofs.Common.{◌≡◌, ℕ, true, List, ◌∷◌, sym, ap, ◌∙◌, subst}
 use Rattle.rules.specs.Calls.{History}
 use Rattle.rules.proofs.Tests.{never, and_left, and_right}
-use Rattle.judge.specs.declared.Judgement.TheVariants.{Accepted}
+use Rattle.judge.specs.Kinds.{accepted}
 use Rattle.judge.specs.Judging.{Judges, replayed}
 use Rattle.judge.proofs.One.{judge_one}
 use Rattle.judge.proofs.Own.{own_log_accepted}
@@ -39,6 +39,6 @@ pub own_text_accepted : OwnTextAccepted
 own_text_accepted tree first log m l h small logs text well numbers fits start at next starts follows =
     let means = text_judged start text at next fits follows in
     let judges = subst (λ (x : List ℕ). Judges start 0 x (judgement_of at) next) numbers (judged_by text well at at.standing means) in (
-      judge_one tree first log (judgement_of at) Accepted small (replayed starts judges) (own_log_accepted tree first log m l h logs),
+      judge_one tree first log (judgement_of at) accepted small (replayed starts judges) (own_log_accepted tree first log m l h logs),
       λ line e. no_number well (subst (λ (s : Standing). Means start text s at next) e means),
     )

@@ -6,10 +6,10 @@ use denote.Enum.Declared.{tag_of}
 use Rattle.rules.specs.Calls.{History}
 use Rattle.rules.proofs.Tests.{never}
 use Rattle.state.specs.State.{Shows}
-use Rattle.judge.specs.declared.Finding.{Finding}
-use Rattle.judge.specs.declared.Finding.TheVariants as finding
+use Rattle.std.specs.Prelude.{Ok, Err}
+use Rattle.judge.specs.Kinds.{Finding, accepted}
 use Rattle.judge.specs.Judging.{holds}
-use Rattle.judge.specs.declared.Judgement.TheVariants.{Accepted, Malformed}
+use Rattle.judge.specs.declared.Rejection.TheVariants.{Malformed}
 use Rattle.logtext.specs.Scans.{Seen, seen_at}
 use Rattle.judgetext.specs.declared.Held.{Held}
 use Rattle.judgetext.specs.declared.Held.TheVariants.{Nothing, Kind, Stamp, Class}
@@ -32,10 +32,8 @@ module _ {h next : History} {at after : Progress} {m l : List ℕ} (shows : Show
 
 -- a record that is not right
 pub completed_wrong : (at : Progress) (f : Finding) → holds f ≡ false → wrong_at at f ≡ completed at f
-completed_wrong at finding.Holds e = never refl e
-completed_wrong at finding.Malformed e = refl
-completed_wrong at (finding.Refused why) e = refl
-completed_wrong at (finding.Another ours) e = refl
+completed_wrong at (Ok _) e = never refl e
+completed_wrong at (Err flaw) e = refl
 
 -- a text that is not wrong, by the numbers that are held
 module _ (standing : Standing) (kept : OneOf (0 ∷ 2 ∷ []) (tag_of standing-type.the_type standing)) where
@@ -48,10 +46,10 @@ module _ (standing : Standing) (kept : OneOf (0 ∷ 2 ∷ []) (tag_of standing-t
       by (Wrong f) (inr e) held k = absurd (omega arith)
       by (NotANumber line) kept held k = refl
 
-  pub judged_short : (held : Held) (k : ℕ) → OneOf (1 ∷ 2 ∷ 3 ∷ []) (tag_of held-type.the_type held) → Malformed k ≡ standing_as standing held k
+  pub judged_short : (held : Held) (k : ℕ) → OneOf (1 ∷ 2 ∷ 3 ∷ []) (tag_of held-type.the_type held) → Err (Malformed k) ≡ standing_as standing held k
   judged_short held k some = sym (unwrong held k ∙ by held some)
     where
-      by : (x : Held) → OneOf (1 ∷ 2 ∷ 3 ∷ []) (tag_of held-type.the_type x) → whole_or x k ≡ Malformed k
+      by : (x : Held) → OneOf (1 ∷ 2 ∷ 3 ∷ []) (tag_of held-type.the_type x) → whole_or x k ≡ Err (Malformed k)
       by Nothing (inl e) = absurd (omega arith)
       by Nothing (inr (inl e)) = absurd (omega arith)
       by Nothing (inr (inr e)) = absurd (omega arith)
@@ -59,5 +57,5 @@ module _ (standing : Standing) (kept : OneOf (0 ∷ 2 ∷ []) (tag_of standing-t
       by (Stamp kind stamp) e = refl
       by (Class kind stamp class) e = refl
 
-  pub judged_whole : (held : Held) (k : ℕ) → held ≡ Nothing → Accepted ≡ standing_as standing held k
+  pub judged_whole : (held : Held) (k : ℕ) → held ≡ Nothing → accepted ≡ standing_as standing held k
   judged_whole held k e = sym (unwrong held k ∙ ap (λ (x : Held). whole_or x k) e)

@@ -3,11 +3,8 @@
 use Rattle.std.specs.Prelude.{◌≡◌, ℕ, ◌+◌, ◌%◌, ◌^◌, Bool, true, false, List, [], ◌∷◌, None, Some, Ok, Err}
 use Rattle.rules.specs.Calls.{History}
 use Rattle.records.specs.Records.{record_of}
-use Rattle.judge.specs.declared.Finding.{Finding}
-use Rattle.judge.specs.declared.Finding.TheVariants.{Holds}
-use Rattle.judge.specs.declared.Finding.TheVariants as finding
-use Rattle.judge.specs.declared.Judgement.{Judgement}
-use Rattle.judge.specs.declared.Judgement.TheVariants.{Accepted, Malformed}
+use Rattle.judge.specs.Kinds.{Finding, Judgement, accepted}
+use Rattle.judge.specs.declared.Rejection.TheVariants.{Malformed}
 use Rattle.judge.specs.Judging.{RecordReplayed, judgement_at}
 use Rattle.logtext.specs.Scans.{Seen, before_text, seen_at, stepped}
 use Rattle.judgetext.specs.declared.Held.{Held}
@@ -49,10 +46,8 @@ wrong_at at f = record { scan = at.scan; records = at.records; held = Nothing; s
 
 -- a record is complete, and found to be that
 abbrev pub completed : Progress → Finding → Progress
-completed at Holds = record { scan = at.scan; records = one_more at.records; held = Nothing; standing = Right }
-completed at finding.Malformed = wrong_at at finding.Malformed
-completed at (finding.Refused why) = wrong_at at (finding.Refused why)
-completed at (finding.Another ours) = wrong_at at (finding.Another ours)
+completed at (Ok _) = record { scan = at.scan; records = one_more at.records; held = Nothing; standing = Right }
+completed at (Err flaw) = wrong_at at (Err flaw)
 
 -- "A word that is no such number" is named by its line
 abbrev pub stuck : Progress → ℕ → Progress
@@ -92,10 +87,10 @@ pub data TextFollows : History → Progress → List ℕ → Progress → Histor
 
 -- what a text is judged as that ends there, where its words are numbers: "A list whose length isn't a multiple of four is malformed at its last, short record."
 abbrev pub whole_or : Held → ℕ → Judgement
-whole_or Nothing k = Accepted
-whole_or (Kind kind) k = Malformed k
-whole_or (Stamp kind stamp) k = Malformed k
-whole_or (Class kind stamp class) k = Malformed k
+whole_or Nothing k = accepted
+whole_or (Kind kind) k = Err (Malformed k)
+whole_or (Stamp kind stamp) k = Err (Malformed k)
+whole_or (Class kind stamp class) k = Err (Malformed k)
 
 abbrev pub standing_as : Standing → Held → ℕ → Judgement
 standing_as Right held k = whole_or held k

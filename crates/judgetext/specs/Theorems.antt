@@ -5,7 +5,7 @@ use Rattle.tree.specs.declared.Tree.{Tree}
 use Rattle.tree.specs.Verdicts.{all_right}
 use Rattle.rules.specs.Calls.{History}
 use Rattle.rules.specs.Answers.{Starts}
-use Rattle.judge.specs.declared.Judgement.TheVariants.{Accepted}
+use Rattle.judge.specs.Kinds.{accepted}
 use Rattle.judge.specs.Judging.{Judges}
 use Rattle.judge.specs.Theorems.{Logs}
 use Rattle.logtext.specs.Scans.{not_a_number, before_text, seen_at}
@@ -34,7 +34,7 @@ pub record UpTo (h : History) (text : List ℕ) (line : ℕ) (next : History) : 
   pub begun : List ℕ
   pub numbers : numbers_of before_text front ≡ whole ++ begun
   pub short : length begun < 4
-  pub judges : Judges h 0 whole Accepted next
+  pub judges : Judges h 0 whole accepted next
 
 -- what a text comes to, by how it stands at its end: its numbers are judged as request 4 has it, and where all is right its records are counted; or a word that is no
 -- number is named
@@ -56,4 +56,4 @@ OwnTextAccepted =
     (tree : Tree) (first : ℕ) (log m l : List ℕ) (h : History) → first < 2 ^ 32 → Logs tree first log m l h
     → (text : List ℕ) → is_well before_text text ≡ true → numbers_of before_text text ≡ log → length text < 2 ^ 64
     → (start : History) (at : Progress) (next : History) → Starts tree first all_right start → TextFollows start before_log text at next
-    → (judgement_of at ≡ Accepted) × ((line : ℕ) → at.standing ≢ NotANumber line)
+    → (judgement_of at ≡ accepted) × ((line : ℕ) → at.standing ≢ NotANumber line)

@@ -8,7 +8,7 @@ ghost use Rattle.state.specs.Heads.{EveryHistory};
 ghost use Rattle.judgetext.specs.Texts.{before_log, is_right, holding, completed, moved, stuck, judgement_of};
 ghost use Rattle.judgetext.specs.Promises.{NumberRight, ByteRight, TextRight};
 
-use judge::{Finding, Judgement};
+use judge::{Flaw, Rejection};
 use logtext::{NotANumber, Scan};
 use state::table::{Lengths, Words};
 
@@ -27,7 +27,7 @@ pub enum Held {
 #[derive(Clone, Copy, PartialEq, Eq)]
 pub enum Standing {
     Right,
-    Wrong { finding: Finding },
+    Wrong { finding: Result<(), Flaw> },
     NotANumber { line: u64 },
 }
 
@@ -76,16 +76,16 @@ pub fn is_right(at: Progress) -> bool
 }
 
 // What a text is judged as that ends there, where all of its words are numbers.
-pub fn judgement(at: Progress) -> Judgement
+pub fn judgement(at: Progress) -> Result<(), Rejection>
     ensures { result ≡ judgement_of at }
 {
     if let Standing::Wrong { finding } = at.standing {
         return judge::name(at.records, finding);
     }
     let Held::Nothing = at.held else {
-        return Judgement::Malformed { record: at.records };
+        return Err(Rejection::Malformed { record: at.records });
     };
-    Judgement::Accepted
+    Ok(())
 }
 
 // One byte more of a text that is right so far.
@@ -142,16 +142,16 @@ fn hold(at: Progress, held: Held) -> Progress
 }
 
 // A record is complete, and found to be that. No log has 2^64 records.
-fn complete(at: Progress, finding: Finding) -> Progress
+fn complete(at: Progress, finding: Result<(), Flaw>) -> Progress
     ensures { result ≡ completed at finding }
 {
-    let Finding::Holds = finding else {
+    if finding.is_err() {
         return Progress {
             held: Held::Nothing,
             standing: Standing::Wrong { finding },
             ..at
         };
-    };
+    }
     Progress {
         records: at.records.wrapping_add(1),
         held: Held::Nothing,

@@ -6,7 +6,7 @@
 mod turns;
 
 use console::{ARGUMENT, Stop};
-use judge::Judgement;
+use judge::Rejection;
 use judgetext::{Progress, Standing};
 use print::{Answer, Wrong};
 use printlog::LogLine;
@@ -60,16 +60,19 @@ fn tell(rt: &(impl Print + Eprint), at: Progress) -> Result<(), Stop> {
         ));
     }
     match judgetext::judgement(at) {
-        Judgement::Accepted => {
+        Ok(()) => {
             let records = at.records;
             say(rt, LogLine::Accepted { records }).or(Err(Stop::Failed))
         }
-        Judgement::TreeRefused { why, class } => {
+        Err(Rejection::TreeRefused { why, class }) => {
             Err(console::refuse(rt, Answer::TreeRefused { why, class }))
         }
-        Judgement::Malformed { record } => Err(refuse(rt, LogLine::Malformed { record })),
-        Judgement::Refused { record, why } => Err(refuse(rt, LogLine::Refused { record, why })),
-        Judgement::AnotherChoice { record, ours } => {
+        Err(Rejection::Malformed { record }) => Err(refuse(rt, LogLine::Malformed { record })),
+        Err(Rejection::Refused { record, why }) => Err(refuse(
+            rt,
+            LogLine::Refused { record, why },
+        )),
+        Err(Rejection::AnotherChoice { record, ours }) => {
             let _ = say(rt, LogLine::AnotherChoice { record });
             let answer = print::departure(Ok(ours));
             Err(refuse(rt, LogLine::Ours { answer }))

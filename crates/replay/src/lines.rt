@@ -166,9 +166,16 @@ fn depart(words: &mut Words, lengths: &mut Lengths, stamp: u32) -> Said
     ensures reached { Reached words.new lengths.new }
 {
     let departure = sched::depart(words, lengths, stamp);
+    let entry = records::departure(stamp, departure);
+    let Ok(Some(packet)) = departure else {
+        return Said {
+            answer: print::departure(departure),
+            entry,
+        };
+    };
     Said {
-        answer: print::departure(departure),
-        entry: records::departure(stamp, departure),
+        answer: Answer::Leaves { packet },
+        entry,
     }
 }
 
