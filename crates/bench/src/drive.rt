@@ -2,7 +2,7 @@
 ghost use Rattle.state.specs.State.{Reached};
 
 use crate::trees;
-use rules::{Arrival, Departure, Packet, Rule, Times};
+use rules::{Packet, Rule, Times};
 use state::table::{CELLS, Lengths, PLACES, Words};
 use tree::Refusal;
 
@@ -31,7 +31,7 @@ impl Tally {
         if let Rule::RealTime = packet.rule {
             self.note(1);
         }
-        if let Times::Timed { eligible, deadline } = packet.times {
+        if let Some(Times { eligible, deadline }) = packet.times {
             self.note(eligible);
             self.note(deadline);
         }
@@ -60,7 +60,7 @@ impl Drive {
     {
         let mut words = [0; CELLS];
         let mut lengths = [0; PLACES];
-        sched::start(trees::grown(above, leaves), 0, &mut words, &mut lengths);
+        let _ = sched::start(trees::grown(above, leaves), 0, &mut words, &mut lengths);
         Drive {
             words,
             lengths,
@@ -93,8 +93,8 @@ impl Drive {
             class,
             length,
         ) {
-            Arrival::Accepted { number } => self.tally.note(number),
-            Arrival::Refused { .. } => self.tally.note(NO_PACKET),
+            Ok(number) => self.tally.note(number),
+            Err(_) => self.tally.note(NO_PACKET),
         }
     }
 
@@ -105,7 +105,7 @@ impl Drive {
     {
         self.stamp = self.stamp.wrapping_add(self.ticks);
         match sched::depart(&mut self.words, &mut self.lengths, self.stamp) {
-            Departure::Leaves { packet } => {
+            Ok(Some(packet)) => {
                 self.class = packet.class;
                 self.ticks = (rules::weigh(packet.length) % 4294967296) as u32;
                 self.tally.note_packet(packet);
@@ -120,16 +120,14 @@ impl Drive {
         ensures { Reached self.new.words self.new.lengths }
     {
         let class = self.above as u32 + 1;
-        match sched::arrive(
+        sched::arrive(
             &mut self.words,
             &mut self.lengths,
             self.stamp,
             class,
             length,
-        ) {
-            Arrival::Accepted { .. } => None,
-            Arrival::Refused { why } => Some(why),
-        }
+        )
+        .err()
     }
 
     fn twenty_arrive(&mut self)

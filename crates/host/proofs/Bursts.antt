@@ -5,20 +5,23 @@ use Prim.Native.Nat.{ℕ}
 use mathlib.Core.Path.{◌≡◌, refl, ◌∙◌, sym, ap, subst, subst⁻¹}
 use mathlib.Core.Bool.{Bool, true, false, cond}
 use mathlib.Core.List.{List, [], ◌∷◌, ◌++◌, append-nil, append_assoc}
-use Rattle.tree.specs.Verdicts.{Verdict}
-use Rattle.file.specs.declared.Reading.{Reading}
-use Rattle.file.proofs.ReadOne.{read_one}
+use Rattle.std.specs.Option.{IsSome}
+use Rattle.std.specs.Prelude.{Some}
+use Rattle.std.proofs.lemmas.Option.{MatchOption-at_some}
+use lib.ListN.{length}
+use Rattle.file.specs.Format.{ReadsAs, verdict_in, tree_in}
+use Rattle.file.specs.Fronts.{most_file_bytes}
+use Rattle.file.proofs.ReadOne.{reads_one}
 use Rattle.bursts.specs.declared.Seen.{Seen}
 use Rattle.bursts.specs.declared.Taken.{Taken}
-use Rattle.bursts.specs.Bursts.{Holds, Offered, ended, Ended}
+use Rattle.bursts.specs.Bursts.{Holds, Reading, Answered, Read, Offered, ended, Ended}
 use Rattle.bursts.specs.Theorems.{together}
+use Rattle.bursts.proofs.One.{holds_some}
 use Rattle.bursts.proofs.Cuts.{begun_holds, still_open, longer, offered_after, ended_after}
-use Rattle.sched.specs.Promises.{StartRight}
 use Rattle.host.specs.Numbers.{verdict_number, verdict_class}
 use Rattle.host.specs.Promises.{StartFileTold}
 use Rattle.host.specs.Bursts.{seen_said, seen_numbers, answer_verdict, told_number, told_class, BeginTold, OfferTold, EndNoted, EndTold, StartBurstsTold, ComesTold, CameTold, CutEnds, CutStarts, OfferToldAfter, EndToldAfter, StartToldAfter}
 use Rattle.host.proofs.One.{alike, seen_told}
-use Rattle.host.proofs.Starting.{file_shows}
 
 -- what is promised of what was seen is promised of what the numbers say
 module _ {seen said : Seen} {kept : List ℕ} {told : Taken} (same : seen ≡ said) where
@@ -28,23 +31,31 @@ module _ {seen said : Seen} {kept : List ℕ} {told : Taken} (same : seen ≡ sa
   pub ended_said : Ended kept seen told → Ended kept said told
   ended_said = subst (λ (s : Seen). Ended kept s told) same
 
+-- what is told of the end is what the whole file reads as
+told_reads : (file : List ℕ) (reading : Reading) (answer : Answered) → answer ≡ Some reading → Read file answer → ReadsAs file (verdict_in reading) (tree_in reading)
+told_reads file reading answer is read =
+    MatchOption-at_some ⊥ (λ r. ReadsAs file (verdict_in r) (tree_in r)) reading is (rw read.told read.reads)
+
+-- where the end was told there is an answer, since whatever stands in the memory, it holds a file
+pub end_answered : (kept : List ℕ) (seen : Seen) (told : Taken) → length kept ≡ most_file_bytes → Ended kept seen told → IsSome told.answer
+end_answered kept seen told room ends =
+    let some = holds_some kept seen.count room in
+    rw (ends.answers some.file some.holds).told refl
+
 -- the start, from what its steps do
-module _ (kept numbers : List ℕ) (stamp said fault : ℕ) (noted m l : List ℕ) (told : Taken) (w : Verdict) where
-  pub start_told : EndNoted kept numbers told noted → said ≡ told_number told → fault ≡ told_class told → StartRight told.tree stamp w m l
-      → StartBurstsTold kept numbers stamp said fault noted m l
-  start_told end number class right = record {
-    end = record { told = told; number = number; class = class; end = end };
-    starts = λ file holds.
-        let read = end.ends.answers file holds in
-        record {
-          answer = read.verdict;
-          tree = told.tree;
-          reads = read.reads;
-          number = number ∙ ap (λ a. verdict_number (answer_verdict a)) read.told;
-          class = class ∙ ap (λ a. verdict_class (answer_verdict a)) read.told;
-          shows = file_shows file told.tree stamp read.verdict w m l read.reads right;
+module _ (kept numbers : List ℕ) (stamp said fault : ℕ) (noted m l : List ℕ) (told : Taken) (reading : Reading) where
+  pub start_told : EndNoted kept numbers told noted → told.answer ≡ Some reading → said ≡ verdict_number (verdict_in reading) → fault ≡ verdict_class (verdict_in reading)
+      → ((file : List ℕ) → ReadsAs file (verdict_in reading) (tree_in reading) → StartFileTold file stamp said fault m l) → StartBurstsTold kept numbers stamp said fault noted m l
+  start_told end is number class starts =
+      record {
+        end = record {
+          told = told;
+          number = number ∙ sym (ap (λ a. verdict_number (answer_verdict a)) is);
+          class = class ∙ sym (ap (λ a. verdict_class (answer_verdict a)) is);
+          end = end;
         };
-  }
+        starts = λ file holds. starts file (told_reads file reading told.answer is (end.ends.answers file holds));
+      }
 
 -- what is written for what was seen says the same again
 said_again : (seen : Seen) → seen_said (seen_numbers seen) ≡ seen
@@ -96,9 +107,8 @@ cut_starts bursts kept numbers stamp said fault noted m l came told = told.start
 pub cut_ends : CutEnds
 cut_ends bursts kept numbers said fault noted came told verdict tree reads =
     let read = told.end.ends.answers (together bursts) (came_open bursts kept numbers came).holds in
-    let r : Reading = record { verdict = read.verdict; tree = told.told.tree } in
-    let s : Reading = record { verdict = verdict; tree = tree } in
-    let same : answer_verdict told.told.answer ≡ verdict = ap answer_verdict read.told ∙ ap (λ (x : Reading). x.verdict) (read_one (together bursts) r s read.reads reads) in
+    let one = reads_one (together bursts) (verdict_in read.reading) verdict (tree_in read.reading) tree read.reads reads in
+    let same : answer_verdict told.told.answer ≡ verdict = ap answer_verdict read.told ∙ one.0 in
     (told.number ∙ ap verdict_number same, told.class ∙ ap verdict_class same)
 
 -- after the end was told, the numbers say so

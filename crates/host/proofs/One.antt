@@ -3,12 +3,13 @@
 use Rattle.std.specs.Prelude.{Some, None, Ok, Err}
 use Rattle.rules.specs.Kinds.{Arrival, Departure}
 use Prim.Native.Nat.{ℕ}
-use mathlib.Core.Path.{◌≡◌, sym, ap, subst, ◌∙◌}
+use mathlib.Core.Path.{◌≡◌, sym, ap, ap₂, subst, ◌∙◌}
 use mathlib.Core.List.{List}
 use lib.ListN.{length}
-use Rattle.file.specs.declared.Reading.{Reading}
-use Rattle.file.specs.declared.writer.Written.{Written}
-use Rattle.file.proofs.ReadOne.{read_one}
+use Rattle.tree.specs.declared.Tree.{Tree}
+use Rattle.tree.specs.Verdicts.{Verdict}
+use Rattle.file.specs.Writing.{Written}
+use Rattle.file.proofs.ReadOne.{reads_one}
 use Rattle.file.proofs.WriteOne.{write_one}
 use Rattle.file.specs.Fronts.{most_file_bytes}
 use Rattle.bursts.specs.declared.Taken.{Taken}
@@ -41,16 +42,10 @@ pub start_file_one : (file : List ℕ) (stamp said said' fault fault' : ℕ) (m 
     → StartFileTold file stamp said fault m l → StartFileTold file stamp said' fault' m' l'
     → (said ≡ said') × (fault ≡ fault') × (m ≡ m') × (l ≡ l')
 start_file_one file stamp said said' fault fault' m m' l l' p q =
-    let r : Reading = record { verdict = p.answer; tree = p.tree } in
-    let s : Reading = record { verdict = q.answer; tree = q.tree } in
-    let one : r ≡ s = read_one file r s p.reads q.reads in
-    let begun : started p.tree stamp p.answer ≡ started q.tree stamp q.answer = ap (λ (x : Reading). started x.tree stamp x.verdict) one in
-    let both = shows_one (subst (λ (h : History). Shows m l h) begun p.shows) q.shows in (
-      alike (λ (x : Reading). verdict_number x.verdict) one p.number q.number,
-      alike (λ (x : Reading). verdict_class x.verdict) one p.class q.class,
-      both.0,
-      both.1,
-    )
+    let one = reads_one file p.answer q.answer p.tree q.tree p.reads q.reads in
+    let begun : started p.tree stamp p.answer ≡ started q.tree stamp q.answer = ap₂ (λ (t : Tree) (v : Verdict). started t stamp v) one.1 one.0 in
+    let both = shows_one (subst (λ (h : History). Shows m l h) begun p.shows) q.shows in
+    (alike verdict_number one.0 p.number q.number, alike verdict_class one.0 p.class q.class, both.0, both.1)
 
 pub write_told_one : (words old : List ℕ) (said said' total total' fault fault' : ℕ) (new new' : List ℕ)
     → WriteTold (tree_said words) old said total fault new → WriteTold (tree_said words) old said' total' fault' new'

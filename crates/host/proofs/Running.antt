@@ -4,6 +4,7 @@ use Prim.Native.Nat.{ℕ, ◌<◌, ◌^◌}
 use mathlib.Core.Path.{◌≡◌, refl, ap}
 use mathlib.Core.List.{List}
 use native.Mathlib.Omega.{arith}
+use Rattle.std.specs.Prelude.{Ok, Err}
 use Rattle.curve.specs.Curves.{Within}
 use Rattle.tree.specs.declared.Tree.{Tree}
 use Rattle.tree.specs.declared.Refusal.TheVariants.{WrongCount}
@@ -33,13 +34,13 @@ none_judged tree e =
 
 module _ {file : List ℕ} {tree : Tree} {stamp : ℕ} {m l : List ℕ} (small : stamp < 2 ^ 32) where
   file_run : (v : Verdict) → ReadsAs file v tree → Shows m l (answers.started tree stamp v) → Run m l (answers.started tree stamp v)
-  file_run all_right reads shows =
+  file_run (Ok _) reads shows =
       started {answer = all_right} small
       (record { next = answers.started tree stamp all_right; starts = record { judged = reads_judged file tree reads; history = refl }; shows = shows })
-  file_run (refused why class) reads shows =
+  file_run (Err fault) reads shows =
       started {answer = refused WrongCount 0} small
       (record {
-        next = answers.started tree stamp (refused why class);
+        next = answers.started tree stamp (Err fault);
         starts = record { judged = none_judged tree reads.given; history = refl };
         shows = shows;
       })

@@ -1,18 +1,19 @@
 -- The numbers of an answer tell it: two answers with the same numbers are equal.
 -- Assumes nothing.
-use Rattle.std.specs.Prelude.{Some, None, Ok, Err}
+use Rattle.std.specs.Prelude.{Option, Some, None, Ok, Err}
 use Rattle.rules.specs.Kinds.{Arrival, Departure}
 use Prim.Native.Nat.{ℕ, ◌<◌}
-use mathlib.Core.Path.{◌≡◌, refl, ap, ap₂}
+use mathlib.Core.Path.{◌≡◌, refl, ap}
 use mathlib.Core.List.{List}
 use native.Mathlib.Omega.{arith}
 use lib.ListN.{get_or, drop}
 use Rattle.tree.specs.Numbers.{number_of}
 use Rattle.tree.specs.declared.Refusal.{Refusal}
 use Rattle.tree.specs.declared.Refusal.TheVariants.{ShortFile, NoMark, OtherVersion, WrongCount, WrongTotal, WrongPlace, WrongBody, TooDeep, CurveAboveChildren, CurvesDontFit, NoSuchLeaf, WrongLength, LeafFull, StampTooFar, ClockFull, BytesFull, SmallBuffer}
-use Rattle.tree.specs.Verdicts.{Verdict, all_right}
+use Rattle.tree.specs.declared.Fault.{Fault}
+use Rattle.tree.specs.Verdicts.{Verdict}
 use Rattle.tree.proofs.Numbers.{refusal_by_number}
-use Rattle.file.specs.declared.writer.Written.{Written}
+use Rattle.file.specs.Writing.{Written}
 use Rattle.rules.specs.declared.Rule.{Rule}
 use Rattle.rules.specs.declared.Rule.TheVariants.{RealTime, Fair}
 use Rattle.rules.specs.declared.Times.{Times}
@@ -39,18 +40,22 @@ number_some ClockFull = omega arith
 number_some BytesFull = omega arith
 number_some SmallBuffer = omega arith
 
+fault_told : (a b : Fault) → number_of a.why ≡ number_of b.why → a.class ≡ b.class → a ≡ b
+fault_told a b e f =
+    let same = refusal_by_number a.why b.why e in
+    λ i. record { why = same i; class = f i }
+
 pub verdict_told : (v w : Verdict) → verdict_number v ≡ verdict_number w → verdict_class v ≡ verdict_class w → v ≡ w
-verdict_told all_right all_right e f = refl
-verdict_told all_right (Verdict.Refused why class) e f = absurd (omega (arith, number_some why))
-verdict_told (Verdict.Refused why class) all_right e f = absurd (omega (arith, number_some why))
-verdict_told (Verdict.Refused why class) (Verdict.Refused why' class') e f = ap₂ Verdict.Refused (refusal_by_number why why' e) f
+verdict_told (Ok _) (Ok _) e f = refl
+verdict_told (Ok _) (Err fault) e f = absurd (omega (arith, number_some fault.why))
+verdict_told (Err fault) (Ok _) e f = absurd (omega (arith, number_some fault.why))
+verdict_told (Err fault) (Err fault') e f = ap Err (fault_told fault fault' e f)
 
 written_by_verdict : (a b : Written) → written_verdict a ≡ written_verdict b → written_total a ≡ written_total b → a ≡ b
-written_by_verdict (Written.Bytes total) (Written.Bytes total') e f = ap Written.Bytes f
-written_by_verdict (Written.Bytes total) (Written.Refused why class) e f = absurd (let z = ap verdict_number e in omega (arith, number_some why))
-written_by_verdict (Written.Refused why class) (Written.Bytes total) e f = absurd (let z = ap verdict_number e in omega (arith, number_some why))
-written_by_verdict (Written.Refused why class) (Written.Refused why' class') e f =
-    ap₂ Written.Refused (refusal_by_number why why' (ap verdict_number e)) (ap verdict_class e)
+written_by_verdict (Ok total) (Ok total') e f = ap Ok f
+written_by_verdict (Ok total) (Err fault) e f = absurd (let z = ap verdict_number e in omega (arith, number_some fault.why))
+written_by_verdict (Err fault) (Ok total) e f = absurd (let z = ap verdict_number e in omega (arith, number_some fault.why))
+written_by_verdict (Err fault) (Err fault') e f = ap Err (fault_told fault fault' (ap verdict_number e) (ap verdict_class e))
 
 pub written_told : (a b : Written)
     → verdict_number (written_verdict a) ≡ verdict_number (written_verdict b) → verdict_class (written_verdict a) ≡ verdict_class (written_verdict b)
@@ -73,11 +78,11 @@ rule_told Fair Fair e = refl
 at : {k l : List ℕ} (i : ℕ) → k ≡ l → get_or k i 0 ≡ get_or l i 0
 at i e = ap (λ (n : List ℕ). get_or n i 0) e
 
-pub times_told : (a b : Times) → times_numbers a ≡ times_numbers b → a ≡ b
+pub times_told : (a b : Option Times) → times_numbers a ≡ times_numbers b → a ≡ b
 times_told None None e = refl
-times_told None (Some (record { eligible = x; deadline = y })) e = absurd (let z : ◌≡◌ {A = ℕ} 0 1 = at 0 e in omega arith)
-times_told (Some (record { eligible = x; deadline = y })) None e = absurd (let z : ◌≡◌ {A = ℕ} 1 0 = at 0 e in omega arith)
-times_told (Some (record { eligible = x; deadline = y })) (Some (record { eligible = x'; deadline = y' })) e = ap₂ Some (record { eligible = (at 1 e); deadline = (at 2 e) })
+times_told None (Some b) e = absurd (let z : ◌≡◌ {A = ℕ} 0 1 = at 0 e in omega arith)
+times_told (Some a) None e = absurd (let z : ◌≡◌ {A = ℕ} 1 0 = at 0 e in omega arith)
+times_told (Some a) (Some b) e = λ i. Some (record { eligible = at 1 e i; deadline = at 2 e i })
 
 packet_told : (p q : Packet) → packet_numbers p ≡ packet_numbers q → p ≡ q
 packet_told p q e =
@@ -86,7 +91,7 @@ packet_told p q e =
     λ i. record { class = at 1 e i; number = at 2 e i; length = at 3 e i; rule = rule i; times = times i }
 
 pub departure_told : (a b : Departure) → departure_number a ≡ departure_number b → departure_numbers a ≡ departure_numbers b → a ≡ b
-departure_told (Ok (Some p)) (Ok (Some q)) e f = ap Ok (Some (packet_told p q f))
+departure_told (Ok (Some p)) (Ok (Some q)) e f = ap (λ (x : Packet). Ok (Some x)) (packet_told p q f)
 departure_told (Ok (Some p)) (Ok None) e f = absurd (let z : ◌≡◌ {A = ℕ} 1 0 = at 0 f in omega arith)
 departure_told (Ok (Some p)) (Err why) e f = absurd (omega (arith, number_some why))
 departure_told (Ok None) (Ok (Some q)) e f = absurd (let z : ◌≡◌ {A = ℕ} 0 1 = at 0 f in omega arith)

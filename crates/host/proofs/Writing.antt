@@ -6,12 +6,12 @@ use mathlib.Core.Path.{◌≡◌, refl, sym, ap, subst, ◌∙◌}
 use mathlib.Core.List.{List}
 use native.Mathlib.Omega.{arith}
 use lib.ListN.{length, take}
+use Rattle.std.specs.Prelude.{Ok, Err}
 use Rattle.tree.specs.declared.Tree.{Tree}
-use Rattle.tree.specs.Verdicts.{Verdict, all_right, refused}
+use Rattle.tree.specs.Verdicts.{Verdict}
 use Rattle.tree.specs.Rules.{ShapeChecked, RightTree, broken, kept}
 use Rattle.file.specs.declared.Order.TheVariants.{Big}
-use Rattle.file.specs.declared.writer.Written.{Written}
-use Rattle.file.specs.Writing.{WriteJudged, written_by, buffer_by, Writes}
+use Rattle.file.specs.Writing.{Written, WriteJudged, written_by, buffer_by, Writes}
 use Rattle.file.specs.Theorems.{ReadsBack}
 use Rattle.file.specs.Fronts.{most_file_bytes}
 use Rattle.file.proofs.Longest.{file_most}
@@ -26,15 +26,15 @@ writes_of {old = old} {new = new} {answer = answer} e = subst (λ (t : Tree). Wr
 
 -- the verdict told is the one that the checks give
 told_verdict : (tree : Tree) (v : Verdict) → written_verdict (written_by tree v) ≡ v
-told_verdict tree all_right = refl
-told_verdict tree (refused why class) = refl
+told_verdict tree (Ok _) = refl
+told_verdict tree (Err fault) = refl
 
 verdict_of : {tree : Tree} {old new : List ℕ} {answer : Written} → (w : Writes tree old answer new) → written_verdict answer ≡ w.verdict
 verdict_of {tree} w = ap written_verdict w.answered ∙ told_verdict tree w.verdict
 
 buffer_kept : (tree : Tree) (old : List ℕ) (v : Verdict) → (verdict_number v ≡ 0 → ⊥) → (buffer_by tree old v ≡ old) × (written_total (written_by tree v) ≡ 0)
-buffer_kept tree old all_right some = absurd (some refl)
-buffer_kept tree old (refused why class) some = (refl, refl)
+buffer_kept tree old (Ok _) some = absurd (some refl)
+buffer_kept tree old (Err fault) some = (refl, refl)
 
 pub write_told_refused : WriteToldRefused
 write_told_refused tree old said total fault new told some =
@@ -46,8 +46,8 @@ pub write_told_reads_back : WriteToldReadsBack
 write_told_reads_back tree old said total fault new told none = by told.answer told.number told.bytes told.writes
   where
     by : (answer : Written) → said ≡ verdict_number (written_verdict answer) → total ≡ written_total answer → Writes tree old answer new → ReadsBack (take total new) tree
-    by (Written.Bytes n) number bytes writes = subst (λ (k : ℕ). ReadsBack (take k new) tree) (sym bytes) (written_reads_back tree old n new writes)
-    by (Written.Refused why class) number bytes writes = absurd (omega (arith, number_some why))
+    by (Ok n) number bytes writes = subst (λ (k : ℕ). ReadsBack (take k new) tree) (sym bytes) (written_reads_back tree old n new writes)
+    by (Err fault) number bytes writes = absurd (omega (arith, number_some fault.why))
 
 -- a tree that is refused for its room has passed every other check, so its file is longer than the room
 small_room : (tree : Tree) (room : ℕ) (v : Verdict) → WriteJudged tree room v → most_file_bytes ≤ room → verdict_number v ≡ 17 → ⊥

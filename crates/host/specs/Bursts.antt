@@ -1,15 +1,13 @@
 -- Document 02, 1, for hosts in C: a class-tree file that comes in bursts. The host lends the bytes that are kept, and two numbers for what was seen.
 -- Assumes nothing.
-use Rattle.std.specs.Prelude.{ℕ, ◌≡◌, not, cond, List, [], ◌∷◌, eqb, length, get_or}
+use Rattle.std.specs.Prelude.{ℕ, ◌≡◌, not, cond, List, [], ◌∷◌, Some, None, eqb, length, get_or}
 use Rattle.tree.specs.declared.Tree.{Tree}
 use Rattle.tree.specs.Verdicts.{Verdict, all_right}
-use Rattle.file.specs.Format.{ReadsAs}
+use Rattle.file.specs.Format.{ReadsAs, verdict_in}
 use Rattle.file.specs.Fronts.{most_file_bytes}
 use Rattle.bursts.specs.declared.Seen.{Seen}
-use Rattle.bursts.specs.declared.Answered.{Answered}
-use Rattle.bursts.specs.declared.Answered.TheVariants.{NothingYet, Reads}
 use Rattle.bursts.specs.declared.Taken.{Taken}
-use Rattle.bursts.specs.Bursts.{Holds, Begun, Offered, Ended}
+use Rattle.bursts.specs.Bursts.{Holds, Answered, Begun, Offered, Ended}
 use Rattle.bursts.specs.Theorems.{together}
 use Rattle.host.specs.Numbers.{verdict_number, verdict_class}
 use Rattle.host.specs.Promises.{StartFileTold}
@@ -24,8 +22,8 @@ seen_numbers seen = seen.count ∷ cond seen.ended 1 0 ∷ []
 
 -- an answer is told as the verdict that it has; nothing yet, as nothing refused
 abbrev pub answer_verdict : Answered → Verdict
-answer_verdict NothingYet = all_right
-answer_verdict (Reads verdict) = verdict
+answer_verdict None = all_right
+answer_verdict (Some reading) = verdict_in reading
 
 abbrev pub told_number : Taken → ℕ
 told_number told = verdict_number (answer_verdict told.answer)

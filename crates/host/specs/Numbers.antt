@@ -2,10 +2,12 @@
 -- lent memory, with 0 wherever there is nothing to say.
 -- Assumes nothing.
 use Rattle.rules.specs.Kinds.{Arrival, Departure}
-use Rattle.std.specs.Prelude.{ℕ, List, [], ◌∷◌, Some, None, Ok, Err}
+use Rattle.std.specs.Prelude.{ℕ, List, [], ◌∷◌, Option, Some, None, Result, Ok, Err}
+use Rattle.tree.specs.declared.Fault.{Fault}
+use Rattle.tree.specs.declared.Refusal.{Refusal}
 use Rattle.tree.specs.Numbers.{number_of}
 use Rattle.tree.specs.Verdicts.{Verdict, all_right}
-use Rattle.file.specs.declared.writer.Written.{Written}
+use Rattle.file.specs.Writing.{Written}
 use Rattle.rules.specs.declared.Rule.{Rule}
 use Rattle.rules.specs.declared.Rule.TheVariants.{RealTime, Fair}
 use Rattle.rules.specs.declared.Times.{Times}
@@ -13,21 +15,31 @@ use Rattle.rules.specs.declared.Packet.{Packet}
 
 -- of a start, or of a file that is read: the number of the refusal, and the class that it names
 abbrev pub verdict_number : Verdict → ℕ
-verdict_number all_right = 0
-verdict_number (Verdict.Refused why class) = number_of why
+verdict_number (Ok _) = 0
+verdict_number (Err fault) = number_of fault.why
 
 abbrev pub verdict_class : Verdict → ℕ
-verdict_class all_right = 0
-verdict_class (Verdict.Refused why class) = class
+verdict_class (Ok _) = 0
+verdict_class (Err fault) = fault.class
+
+-- the verdict in an answer that is a value or a fault
+abbrev pub verdict_of : {A : Type 0} → Result A Fault → Verdict
+verdict_of (Ok value) = all_right
+verdict_of (Err fault) = Err fault
 
 -- of a tree that is written as a file: the verdict, which is told as above, and the total bytes
 abbrev pub written_verdict : Written → Verdict
-written_verdict (Written.Bytes total) = all_right
-written_verdict (Written.Refused why class) = Verdict.Refused why class
+written_verdict (Ok total) = all_right
+written_verdict (Err fault) = Err fault
 
 abbrev pub written_total : Written → ℕ
-written_total (Written.Bytes total) = total
-written_total (Written.Refused why class) = 0
+written_total (Ok total) = total
+written_total (Err fault) = 0
+
+-- of a call that answers a value or a refusal: the number of the refusal
+abbrev pub refusal_number : {A : Type 0} → Result A Refusal → ℕ
+refusal_number (Ok value) = 0
+refusal_number (Err why) = number_of why
 
 -- of an arrival: the number of the refusal, and the packet's number within its leaf
 abbrev pub arrival_number : Arrival → ℕ
@@ -43,9 +55,9 @@ rule_number RealTime = 1
 rule_number Fair = 2
 
 -- whether there are times, eligible time, deadline
-abbrev pub times_numbers : Times → List ℕ
+abbrev pub times_numbers : Option Times → List ℕ
 times_numbers None = 0 ∷ 0 ∷ 0 ∷ []
-times_numbers (Some (record { eligible = eligible; deadline = deadline })) = 1 ∷ eligible ∷ deadline ∷ []
+times_numbers (Some times) = 1 ∷ times.eligible ∷ times.deadline ∷ []
 
 -- 1, "class, its number within the leaf from 0, length, rule, and for a leaf with a real-time curve eligible time and deadline"
 abbrev pub packet_numbers : Packet → List ℕ

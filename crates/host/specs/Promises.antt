@@ -2,12 +2,11 @@
 -- the history after it.
 -- Assumes nothing.
 use Rattle.rules.specs.Kinds.{Arrival, Departure}
-use Rattle.std.specs.Prelude.{ℕ, ◌≤◌, ◌≡◌, List, length, take}
+use Rattle.std.specs.Prelude.{ℕ, ◌≤◌, ◌≡◌, List, Option, length, take}
 use Rattle.tree.specs.declared.Tree.{Tree}
 use Rattle.tree.specs.Verdicts.{Verdict}
-use Rattle.file.specs.declared.writer.Written.{Written}
 use Rattle.file.specs.Format.{ReadsAs}
-use Rattle.file.specs.Writing.{Writes}
+use Rattle.file.specs.Writing.{Written, Writes}
 use Rattle.file.specs.Theorems.{ReadsBack}
 use Rattle.file.specs.Fronts.{most_file_bytes}
 use Rattle.rules.specs.declared.Times.{Times}
@@ -58,7 +57,7 @@ pub record DepartTold (m₀ l₀ : List ℕ) (stamp said : ℕ) (out m l : List 
 
 -- of the times of a leaf's head
 pub record HeadTold (m l : List ℕ) (class : ℕ) (out : List ℕ) : Type 0 where
-  pub times : Times
+  pub times : Option Times
   pub written : out ≡ times_numbers times
   pub right : EveryHistory m l (λ h. HeadTimes h.tree h.calls class times)
 

@@ -1,5 +1,6 @@
 // The scheduler for hosts in C: numbers and lent arrays. `include/hfsc.h` declares these functions. Every
 // name starts with `hfsc_`, since a linked program has one space of names.
+// Stays: a state's two arrays are two parameters of each call, since the C interface has them so.
 
 #![tactic(auto)]
 
@@ -13,10 +14,7 @@ ghost use Rattle.judgefile.specs.Promises.{JudgeTold};
 ghost use Rattle.host.specs.Words.{tree_said};
 ghost use Rattle.host.specs.Promises.{StartTold, StartFileTold, WriteTold, ArriveTold, DepartTold, HeadTold};
 
-use crate::numbers::{
-    arrival_number, departure_number, departure_numbers, packet_number, times_numbers,
-    verdict_class, verdict_number, written_total, written_verdict,
-};
+use crate::numbers::{departure_numbers, refusal_number, tell, times_numbers};
 use crate::words::tree_of;
 use state::table::{Lengths, Words};
 
@@ -36,9 +34,7 @@ pub fn hfsc_start_words(
     ensures right { StartTold (tree_said tree.now) stamp result fault.new words.new lengths.new }
     ensures reached { Reached words.new lengths.new }
 {
-    let answer = sched::start(tree_of(tree), stamp, words, lengths);
-    *fault = verdict_class(answer);
-    verdict_number(answer)
+    tell(sched::start(tree_of(tree), stamp, words, lengths), fault)
 }
 
 // A state started from a tree file. A refused file gives the state of no classes, as a refused tree does.
@@ -53,11 +49,8 @@ pub fn hfsc_start_file(
     ensures reached { Reached words.new lengths.new }
 {
     let reading = file::reader::read(file);
-    let tree = reading.tree;
-    let verdict = reading.verdict;
-    sched::start(tree, stamp, words, lengths);
-    *fault = verdict_class(verdict);
-    verdict_number(verdict)
+    let _ = sched::start(reading.unwrap_or(tree::empty()), stamp, words, lengths);
+    tell(reading, fault)
 }
 
 // The file of a tree of words, written to the start of `out`: 0, with its bytes counted in `total`; or the number of the refusal, with
@@ -66,10 +59,8 @@ pub fn hfsc_write(tree: &[u32], out: &mut [u8], total: &mut u32, fault: &mut u32
     ensures { WriteTold (tree_said tree.now) out.old result total.new fault.new out.new }
 {
     let answer = file::writer::write(tree_of(tree), out);
-    let verdict = written_verdict(answer);
-    *total = written_total(answer);
-    *fault = verdict_class(verdict);
-    verdict_number(verdict)
+    *total = answer.unwrap_or(0);
+    tell(answer, fault)
 }
 
 // Judges the log of a box over a tree file, from a first stamp. The answer is the number of the judgement, and `out` says more of it.
@@ -94,8 +85,8 @@ pub fn hfsc_arrive(
     ensures reached { Reached words.new lengths.new }
 {
     let answer = sched::arrive(words, lengths, stamp, class, length);
-    *number = packet_number(answer);
-    arrival_number(answer)
+    *number = answer.unwrap_or(0);
+    refusal_number(answer)
 }
 
 // The link asks for a packet. The answer is 0, with what leaves in `out`, or the number of the refusal.
@@ -106,7 +97,7 @@ pub fn hfsc_depart(words: &mut Words, lengths: &mut Lengths, stamp: u32, out: &m
 {
     let answer = sched::depart(words, lengths, stamp);
     *out = departure_numbers(answer);
-    departure_number(answer)
+    refusal_number(answer)
 }
 
 // The clock.

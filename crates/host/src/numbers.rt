@@ -2,72 +2,33 @@
 ghost use Rattle.std.specs.Prelude.{◌≡◌};
 ghost use Rattle.host.specs.Numbers as n;
 
-use file::writer::Written;
-use rules::{Arrival, Departure, Packet, Rule, Times};
-use tree::Verdict;
+use rules::{Packet, Rule, Times};
+use tree::{Fault, Refusal};
 
-pub(crate) fn verdict_number(verdict: Verdict) -> u32
-    ensures { result ≡ n.verdict_number verdict }
-{
-    match verdict {
-        Verdict::Right => 0,
-        Verdict::Refused { why, class: _ } => tree::number(why),
-    }
-}
-
-pub(crate) fn verdict_class(verdict: Verdict) -> u32
-    ensures { result ≡ n.verdict_class verdict }
-{
-    match verdict {
-        Verdict::Right => 0,
-        Verdict::Refused { why: _, class } => class,
-    }
-}
-
-// The verdict on a tree that is written.
-pub(crate) fn written_verdict(answer: Written) -> Verdict
-    ensures { result ≡ n.written_verdict answer }
+// Tells the fault in an answer, whatever the answer has where there is none: the number of the refusal, with the class in `class`.
+pub(crate) fn tell<T: Drop>(answer: Result<T, Fault>, class: &mut u32) -> u32
+    ensures number { result ≡ n.verdict_number (n.verdict_of answer) }
+    ensures class { class.new ≡ n.verdict_class (n.verdict_of answer) }
 {
     match answer {
-        Written::Bytes(_) => Verdict::Right,
-        Written::Refused { why, class } => Verdict::Refused { why, class },
+        Ok(_) => {
+            *class = 0;
+            0
+        }
+        Err(fault) => {
+            *class = fault.class;
+            tree::number(fault.why)
+        }
     }
 }
 
-pub(crate) fn written_total(answer: Written) -> u32
-    ensures { result ≡ n.written_total answer }
+// The number of the refusal of a call, whatever the call answers where there is none.
+pub(crate) fn refusal_number<T: Drop>(answer: Result<T, Refusal>) -> u32
+    ensures { result ≡ n.refusal_number answer }
 {
     match answer {
-        Written::Bytes(total) => total,
-        Written::Refused { why: _, class: _ } => 0,
-    }
-}
-
-pub(crate) fn arrival_number(answer: Arrival) -> u32
-    ensures { result ≡ n.arrival_number answer }
-{
-    match answer {
-        Arrival::Accepted { number: _ } => 0,
-        Arrival::Refused { why } => tree::number(why),
-    }
-}
-
-pub(crate) fn packet_number(answer: Arrival) -> u64
-    ensures { result ≡ n.packet_number answer }
-{
-    match answer {
-        Arrival::Accepted { number } => number,
-        Arrival::Refused { why: _ } => 0,
-    }
-}
-
-pub(crate) fn departure_number(answer: Departure) -> u32
-    ensures { result ≡ n.departure_number answer }
-{
-    match answer {
-        Departure::Leaves { packet: _ } => 0,
-        Departure::NoneWaits => 0,
-        Departure::Refused { why } => tree::number(why),
+        Ok(_) => 0,
+        Err(why) => tree::number(why),
     }
 }
 
@@ -81,12 +42,12 @@ fn rule_number(rule: Rule) -> u64
 }
 
 // Timed or not, eligible time, deadline.
-pub(crate) fn times_numbers(times: Times) -> [u64; 3]
+pub(crate) fn times_numbers(times: Option<Times>) -> [u64; 3]
     ensures { result ≡ n.times_numbers times }
 {
     match times {
-        Times::Untimed => [0, 0, 0],
-        Times::Timed { eligible, deadline } => [1, eligible, deadline],
+        None => [0, 0, 0],
+        Some(Times { eligible, deadline }) => [1, eligible, deadline],
     }
 }
 
@@ -94,29 +55,24 @@ pub(crate) fn times_numbers(times: Times) -> [u64; 3]
 fn packet_numbers(packet: Packet) -> [u64; 8]
     ensures { result ≡ n.packet_numbers packet }
 {
-    let times = packet.times;
-    let rule = packet.rule;
-    let timed = times_numbers(times);
-    let class = packet.class as u64;
-    let length = packet.length as u64;
+    let [timed, eligible, deadline] = times_numbers(packet.times);
     [
         1,
-        class,
+        packet.class as u64,
         packet.number,
-        length,
-        rule_number(rule),
-        timed[0],
-        timed[1],
-        timed[2],
+        packet.length as u64,
+        rule_number(packet.rule),
+        timed,
+        eligible,
+        deadline,
     ]
 }
 
-pub(crate) fn departure_numbers(answer: Departure) -> [u64; 8]
+pub(crate) fn departure_numbers(answer: Result<Option<Packet>, Refusal>) -> [u64; 8]
     ensures { result ≡ n.departure_numbers answer }
 {
     match answer {
-        Departure::Leaves { packet } => packet_numbers(packet),
-        Departure::NoneWaits => [0; 8],
-        Departure::Refused { why: _ } => [0; 8],
+        Ok(Some(packet)) => packet_numbers(packet),
+        Ok(None) | Err(_) => [0; 8],
     }
 }

@@ -1,20 +1,22 @@
 // A tree as words: the count, then six words a class.
-ghost use Rattle.std.specs.Prelude.{◌≡◌, ◌+◌, ◌<◌, ◌^◌};
+ghost use Rattle.std.specs.Prelude.{◌≡◌, ◌+◌, ◌*◌, ◌<◌, ◌^◌};
 ghost use Rattle.host.specs.Words.{word_at, class_from, tree_said};
 
 use curve::Curve;
 use curve::codec::Code;
 use state::table::CLASSES;
+use std::array;
 use tree::{Class, Tree};
 
 // The word at a place; 0 past the end.
 fn word(tree: &[u32], at: usize) -> u32
     ensures { result ≡ word_at tree.now at }
 {
-    if at < tree.len() { tree[at] } else { 0 }
+    tree.get(at).copied().unwrap_or(0)
 }
 
 // The class whose six words stand from a place on; no class where the kind is unknown.
+#[tactic(auto, unfolding(crate::specs::Words::class_from))]
 fn class_of(tree: &[u32], at: usize) -> Class
     requires { at + 6 < 2 ^ 64 }
     ensures { result ≡ class_from tree.now at }
@@ -39,12 +41,13 @@ fn class_of(tree: &[u32], at: usize) -> Class
 pub(crate) fn tree_of(words: &[u32]) -> Tree
     ensures { result ≡ tree_said words.now }
 {
-    let mut tree = tree::empty();
-    tree.count = word(words, 0);
-    let mut i: usize = 0;
-    while i < CLASSES {
-        tree.classes[i] = class_of(words, 1 + 6 * i);
-        i += 1;
+    Tree {
+        count: word(words, 0),
+        classes: array::from_fn(
+            |i|
+                requires { i < CLASSES }
+                ensures { result ≡ class_from words.entry.now (1 + 6 * i) }
+            { class_of(words, 1 + 6 * i) },
+        ),
     }
-    tree
 }

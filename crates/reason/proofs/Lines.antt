@@ -5,7 +5,6 @@ use mathlib.Core.Path.{◌≡◌, refl, sym, ◌∙◌, ap, subst}
 use mathlib.Core.Logic.{◌⊎◌, inl, inr, ⊎_elim}
 use mathlib.Core.List.{List, [], ◌∷◌}
 use native.Mathlib.Omega.{arith}
-use native.Mathlib.Numerals.{towards_suc}
 use lib.ListN.{length, get_or, set, length-set}
 use borrow.Rule.Slice.PartMut.{put_mid}
 use Rattle.std.proofs.lemmas.List.Edits.{sets-eq}
@@ -13,7 +12,7 @@ use Rattle.std.proofs.lemmas.Slice.{put_mid-paste}
 use lib.Seq.{sets, take_all, length-sets, get_or-set_same, get_or-set_other}
 use Rattle.reason.specs.declared.Reason.{Reason}
 use Rattle.reason.specs.declared.Reason.TheVariants.{NothingWaits, ChosenByDeadline, NoCurve, NotEligible, LaterDeadline, HigherNumber, ChosenByShare, PassedOver}
-use Rattle.reason.specs.Reasons.{numbers, number_of, values_of, line_of, reason_of, ReasonBack}
+use Rattle.reason.specs.Reasons.{numbers, line_of, reason_of, ReasonBack}
 use Rattle.reason.specs.Lines.{LineAt, PutLine}
 
 -- a copy of a run over a part of the sheet is the run's stores, one after another

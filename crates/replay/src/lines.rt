@@ -119,9 +119,15 @@ fn later(
     ensures reached { Reached words.new lengths.new }
 {
     match call {
-        Ok(Some(Call::Arrive { stamp, class, length })) => {
-            Ok(Some(arrive(words, lengths, stamp, class, length)))
-        }
+        Ok(
+            Some(
+                Call::Arrive {
+                    stamp,
+                    class,
+                    length,
+                },
+            ),
+        ) => { Ok(Some(arrive(words, lengths, stamp, class, length))) }
         Ok(Some(Call::Depart { stamp })) => Ok(Some(depart(words, lengths, stamp))),
         Ok(Some(Call::Start { .. })) => Err(Wrong::StartedAlready),
         Ok(None) => Ok(None),

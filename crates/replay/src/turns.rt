@@ -89,7 +89,7 @@ pub fn replay(
     let mut output = Output::new();
     let mut line = [0u8; LINE];
     let mut run = lines::before(form);
-    sched::start(tree::empty(), 0, &mut words, &mut lengths);
+    let _ = sched::start(tree::empty(), 0, &mut words, &mut lengths);
     'turns: for _ in 0..u64::MAX {
         if !run.is_going {
             break;

@@ -20,10 +20,7 @@ fn print_beyond(rt: &(impl Print + Eprint), tree: Tree) -> io::Result<()> {
 }
 
 // What a file reads as in bursts. Its tree is then seen by what is written of it.
-fn print_answer(
-    rt: &(impl Print + Eprint),
-    answer: Option<Result<Tree, Fault>>,
-) -> io::Result<()> {
+fn print_answer(rt: &(impl Print + Eprint), answer: Option<Result<Tree, Fault>>) -> io::Result<()> {
     console::text(rt, b"in bursts: ")?;
     match answer {
         None => console::println(rt, "nothing yet"),

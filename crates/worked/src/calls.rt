@@ -73,8 +73,8 @@ impl<R: Print + Eprint> Scheduler<R> {
             "clock {clock} class {class} waiting {waiting} virtual {virtual_time}"
         );
         match sched::readers::head_times(&self.words, &self.lengths, class) {
-            Times::Untimed => self.println(asked),
-            Times::Timed { eligible, deadline } => {
+            None => self.println(asked),
+            Some(Times { eligible, deadline }) => {
                 self.println(format_args!("{asked} eligible {eligible} deadline {deadline}"))
             }
         }

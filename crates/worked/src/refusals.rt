@@ -4,7 +4,6 @@ ghost use Rattle.state.specs.State.{Reached};
 use crate::calls::Scheduler;
 use crate::trees;
 use curve::Curve;
-use rules::Arrival;
 use std::io;
 
 pub fn run(scheduler: &mut Scheduler<impl Print + Eprint>) -> io::Result<()> {
@@ -44,7 +43,7 @@ fn is_accepted(scheduler: &mut Scheduler<impl Print + Eprint>, length: u32) -> b
     ensures { Reached scheduler.new.words scheduler.new.lengths }
 {
     let arrival = sched::arrive(&mut scheduler.words, &mut scheduler.lengths, 0, 1, length);
-    matches!(arrival, Arrival::Accepted { .. })
+    arrival.is_ok()
 }
 
 // So many arrivals for leaf 1 at stamp 0, of lengths 1, 2, 3, ..

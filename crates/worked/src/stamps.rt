@@ -3,7 +3,6 @@ ghost use Rattle.state.specs.State.{Reached};
 
 use crate::calls::Scheduler;
 use crate::trees;
-use rules::Departure;
 use std::io;
 
 pub fn run(scheduler: &mut Scheduler<impl Print + Eprint>) -> io::Result<()> {
@@ -53,7 +52,7 @@ fn is_idle(scheduler: &mut Scheduler<impl Print + Eprint>, stamp: u32) -> bool
     ensures { Reached scheduler.new.words scheduler.new.lengths }
 {
     let departure = sched::depart(&mut scheduler.words, &mut scheduler.lengths, stamp);
-    matches!(departure, Departure::NoneWaits)
+    matches!(departure, Ok(None))
 }
 
 // So many departures, each 2,147,483,647 ticks after the one before, from stamp 0 on.

@@ -4,7 +4,7 @@ use Rattle.maketree.proofs.Room.{written_within}
 use Rattle.maketree.proofs.tree_file.Goals as goal
 
 pub slice_bounds-bytes-end : goal.slice_bounds-bytes-end
-slice_bounds-bytes-end g c = (written_within c.write-written.ensures c.in-Bytes.is).0
+slice_bounds-bytes-end g c = (written_within c.write.ensures c.in-Ok.is).0
 
 pub slice_bounds-save-end : goal.slice_bounds-save-end
-slice_bounds-save-end g c = (written_within c.write-written.ensures c.in-Bytes.is).1
+slice_bounds-save-end g c = (written_within c.write.ensures c.in-Ok.is).1

@@ -1,5 +1,4 @@
--- `why::fill` meets its contract: the lines of the leaves among the classes passed are in place, and the next one goes behind them. The measure is how
--- many classes are left.
+-- `why::fill` meets its contract: the lines of the leaves among the classes passed are in place, and the next one goes behind them.
 -- Assumes nothing.
 use Rattle.std.specs.Prelude.{Option}
 use Prim.Native.Nat.{ℕ, ◌+◌, ◌*◌, ◌≤◌, ◌<◌}

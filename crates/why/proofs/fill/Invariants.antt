@@ -1,4 +1,4 @@
-use Prim.Native.Nat.{ℕ, ◌*◌, ◌-◌, ◌≤◌}
+use Prim.Native.Nat.{ℕ, ◌*◌, ◌≤◌}
 use mathlib.Core.Path.{◌≡◌}
 use mathlib.Core.List.{List}
 use Rattle.tree.specs.declared.Tree.{Tree}
@@ -16,6 +16,3 @@ pub record Onward (tree : Tree) (cs : List Call) (tick i at : ℕ) (old new : Li
 
 abbrev pub invariant-loop-i : goal.invariant-loop-i
 invariant-loop-i l = (l.i ≤ l.count) × (l.count ≤ CLASSES) × ((tree : Tree) (cs : List Call) → Fillable l.words tree cs l.tick l.initial.sheet → Onward tree cs l.tick l.i l.at l.initial.sheet l.sheet)
-
-abbrev pub decreases-loop-i : goal.decreases-loop-i
-decreases-loop-i l = l.count - l.i

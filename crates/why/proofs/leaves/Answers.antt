@@ -1,4 +1,4 @@
--- `why::leaves` meets its contract: the leaves among the classes passed are counted. The measure is how many classes are left.
+-- `why::leaves` meets its contract: the leaves among the classes passed are counted.
 -- Assumes nothing.
 use Prim.Native.Nat.{◌<◌}
 use mathlib.Core.Path.{sym, ◌∙◌}

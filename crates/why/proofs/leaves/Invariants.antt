@@ -1,4 +1,4 @@
-use Prim.Native.Nat.{◌-◌, ◌≤◌}
+use Prim.Native.Nat.{◌≤◌}
 use mathlib.Core.Path.{◌≡◌}
 use mathlib.Core.List.{List}
 use Rattle.tree.specs.declared.Tree.{Tree}
@@ -10,6 +10,3 @@ use Rattle.why.proofs.leaves.Given as goal
 
 abbrev pub invariant-loop-i : goal.invariant-loop-i
 invariant-loop-i l = (l.i ≤ l.count) × (l.count ≤ CLASSES) × (l.lines ≤ l.i) × ((tree : Tree) (cs : List Call) → Told l.words tree cs → l.lines ≡ line_number tree l.i)
-
-abbrev pub decreases-loop-i : goal.decreases-loop-i
-decreases-loop-i l = l.count - l.i

@@ -1,30 +1,16 @@
--- The classes are read one after another: those below the next one are what the words say, and no class stands above them.
+-- Each class is what the words say of its number, since the closure keeps the words that it was made with.
 -- Assumes nothing.
-use mathlib.Core.Path.{◌≡◌, ◌∙◌, ap}
-use native.Mathlib.Omega.{arith}
-use Rattle.tree.specs.declared.Tree.{Tree}
-use Rattle.tree.specs.Trees.{empty_tree}
-use Rattle.state.specs.Table.{CLASSES}
-use Rattle.host.specs.Words.{first_classes}
-use Rattle.host.proofs.Saying.{filled, filled_next, tree_is}
+use mathlib.Core.Path.{◌≡◌, refl, ◌∙◌, ap}
+use Prim.Native.Nat.{◌+◌, ◌*◌}
+use Rattle.tree.specs.Trees.{no_class}
+use Rattle.host.specs.Words.{class_from}
+use Rattle.host.proofs.Saying.{class_said, made, tree_is}
 use Rattle.host.proofs.words.tree_of.Goals as goal
-
-pub loop-i-init : goal.loop-i-init
-unfolding empty_tree first_classes
-loop-i-init c = record { within = omega arith; counted = c.word.ensures; classes = ap (λ (t : Tree). t.classes) c.empty-tree.ensures }
-
-pub loop-i-preserved : goal.loop-i-preserved
-loop-i-preserved c =
-    let l = c.loop-i in
-    record {
-      within = omega arith;
-      counted = l.invariant.counted;
-      classes = cc (filled_next c.args.words.now l.i (omega arith));
-    }
 
 pub returns : goal.returns
 returns c =
-    let l = c.loop-i in
-    let words = c.args.words.now in
-    let most_bytes_accepted : l.i ≡ CLASSES = omega (arith, l.invariant.within) in
-    tree_is words l.tree l.invariant.counted (l.invariant.classes ∙ ap (filled words) most_bytes_accepted)
+    let words = c.args.words in
+    tree_is words.now _ c.word.ensures
+    (made (λ f. f.0 ≡ words) (class_said words.now)
+    (λ f i y f' same called. (called.met.0 ∙ same, called.met.1 ∙ ap (λ w. class_from w.now (1 + 6 * i)) same))
+    c.from_fn.result _ _ refl c.from_fn.ensures.items no_class)
