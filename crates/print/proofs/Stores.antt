@@ -1,24 +1,15 @@
--- Laws on runs of stores, `sets l i vs`: the list l with the elements of vs from place i on; and on prints, which are such runs.
+-- Laws on prints: they are runs of stores, `sets l i vs`, the list l with the elements of vs from place i on.
 -- Assumes nothing.
-use Prim.Native.Nat.{ℕ, suc, ◌+◌, ◌≤◌}
+use Prim.Native.Nat.{ℕ, ◌+◌, ◌≤◌}
 use mathlib.Core.Path.{◌≡◌, refl, sym, subst, ap, ◌∙◌}
-use mathlib.Core.List.{List, [], ◌∷◌, ◌++◌, append_assoc}
-use native.Mathlib.Nat.{add-zero, suc-add, add-suc}
+use mathlib.Core.List.{List, [], ◌++◌}
+use native.Mathlib.Nat.{add-zero}
 use native.Mathlib.Omega.{arith}
-use lib.ListN.{length, set, take, drop, length-append}
-use lib.Seq.{sets, sets-eq, drop-drop, length-take-le}
-use borrow.Rule.Slice.PartMut.{put_mid}
+use lib.ListN.{length, length-append}
+use lib.Seq.{sets, length-take-le}
+use Rattle.tree.proofs.Stores.{sets_append}
 use Rattle.print.specs.declared.put.Printer.{Printer}
 use Rattle.print.specs.Promises.{HasRoom, Printed, Prints, Within}
-
--- one run of stores, and then the next, is one run of both
-pub sets_append : (xs ys l : List ℕ) (i : ℕ) → sets (sets l i xs) (i + length xs) ys ≡ sets l i (xs ++ ys)
-sets_append [] ys l i = rw add-zero
-sets_append (x ∷ xs) ys l i = rw (add-suc, ← suc-add) (sets_append xs ys (set l i x) (suc i))
-
--- a part that was lent, and has come back, is a run at its place
-pub sets_part : (l : List ℕ) (at n : ℕ) (vs : List ℕ) → length vs ≡ n → at + n ≤ length l → put_mid at n l vs ≡ sets l at vs
-sets_part l at n vs same fits = rw drop-drop (sym (sets-eq vs l at (omega arith) ∙ rw same (append_assoc (take at l) vs (drop (at + n) l))))
 
 -- a part that ends within its buffer
 pub ends_within : (n : ℕ) (xs : List ℕ) → n ≤ length xs → Within n xs

@@ -5,7 +5,8 @@ use mathlib.Core.Path.{◌≡◌, refl, ap, ◌∙◌}
 use native.Mathlib.Omega.{arith}
 use lib.ListN.{length}
 use lib.Seq.{length-sets}
-use Rattle.print.proofs.Stores.{ends_within, sets_part}
+use Rattle.tree.proofs.Stores.{sets_part}
+use Rattle.print.proofs.Stores.{ends_within}
 use Rattle.print.proofs.put.Printer.text.Goals as goal
 
 pub returns : goal.returns
