@@ -1,5 +1,5 @@
 pub mod Stores
-pub mod Places
+pub mod Digits
 pub mod Rows
 pub mod One
 pub mod Split

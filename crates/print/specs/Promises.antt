@@ -6,6 +6,7 @@ use Rattle.wording.specs.Letters.{space}
 use Rattle.wording.specs.Decimal.{decimal}
 use Rattle.tree.specs.declared.Tree.{Tree}
 use Rattle.print.specs.declared.Answer.{Answer}
+use Rattle.print.specs.declared.put.Printer.{Printer}
 use Rattle.print.specs.Lines.{line_of, tree_text}
 
 -- room for any line, for a space and a number, and for the text of any tree, 65 lines
@@ -27,6 +28,16 @@ pub record Printed (old : List ℕ) (at : ℕ) (bytes new : List ℕ) (end : ℕ
   pub holds : new ≡ sets old at bytes
   pub ends : end ≡ at + length bytes
   pub within : Within end new
+
+-- so many bytes more have room in a printer's buffer
+abbrev pub HasRoom : Printer → ℕ → Type 0
+HasRoom printer n = printer.at + n ≤ length printer.out.now
+
+-- the bytes stand in a printer's buffer from its place on, and its place is where they end. It prints into the same buffer still, which is as long as it was.
+pub record Prints (old : Printer) (bytes : List ℕ) (new : Printer) : Type 0 where
+  pub same_buffer : new.out.ghost_name ≡ old.out.ghost_name
+  pub same_length : length new.out.now ≡ length old.out.now
+  pub printed : Printed old.out.now old.at bytes new.out.now new.at
 
 -- the line of an answer, from the front
 abbrev pub PrintsLine : Answer → List ℕ → List ℕ → ℕ → Type 0

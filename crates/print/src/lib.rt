@@ -6,6 +6,7 @@ ghost use Rattle.std.specs.Prelude.{◌≡◌, ◌≤◌};
 ghost use Rattle.print.specs.Lines.{start_answer, arrival_answer, departure_answer};
 ghost use Rattle.print.specs.Promises.{PrintsLine, PrintsTree, PrintsNumber, line_room};
 
+use put::Printer;
 use rules::Packet;
 use tree::{Class, Fault, Refusal, Tree};
 
@@ -50,21 +51,27 @@ pub fn line(answer: Answer, out: &mut [u8; LINE]) -> usize
     ensures printed { PrintsLine answer out.old out.new result }
     ensures room { result ≤ line_room }
 {
-    put::line(out, 0, answer)
+    let mut printer = Printer { out, at: 0 };
+    printer.line(answer);
+    printer.at
 }
 
 // The text of a tree, likewise.
 pub fn text(tree: Tree, out: &mut [u8; TEXT]) -> usize
     ensures { PrintsTree tree out.old out.new result }
 {
-    put::tree(out, tree)
+    let mut printer = Printer { out, at: 0 };
+    printer.tree(tree);
+    printer.at
 }
 
 // A space and a number, likewise.
 pub fn number(n: u64, out: &mut [u8; NUMBER]) -> usize
     ensures { PrintsNumber n out.old out.new result }
 {
-    put::number(out, 0, n)
+    let mut printer = Printer { out, at: 0 };
+    printer.number(n);
+    printer.at
 }
 
 // The answer that a start with a tree of so many classes is printed as.

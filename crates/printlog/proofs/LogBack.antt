@@ -6,7 +6,7 @@ use mathlib.Core.Bool.{Bool, true, cond}
 use mathlib.Core.List.{List, [], ◌∷◌, ◌++◌}
 use native.Mathlib.Omega.{arith}
 use lib.Dec.{eqb, ltb}
-use lib.ListN.{length, get_or, drop, get_or-append}
+use lib.ListN.{get_or, drop, get_or-append}
 use borrow.Author.Tests.{lt-ltb}
 use Rattle.wording.specs.Letters.{a, m, o, r}
 use Rattle.wording.specs.Decimal.{digit, decimal}
@@ -45,7 +45,7 @@ why_in (Malformed at) = ShortFile
 why_in (Refused at why) = why
 why_in (AnotherChoice at) = ShortFile
 why_in (Ours answer) = ShortFile
-why_in (Record kind stamp class length) = ShortFile
+why_in (Record n) = ShortFile
 
 pub why_number : List (List ℕ) → ℕ
 why_number ws = cond (starts_low (word ws 0)) 1 (cond (starts (word ws 0) r) (cond (starts (word ws 2) r) (number ws 3) 1) 1)
@@ -57,7 +57,7 @@ why_back (Malformed at) = refl
 why_back (Refused at why) = read_back (number_of why)
 why_back (AnotherChoice at) = refl
 why_back (Ours answer) = refl
-why_back (Record kind stamp class length) = rw (number_low kind)
+why_back (Record n) = rw (number_low n.kind)
 
 abbrev pub answer_in : LogLine → Answer
 answer_in (Accepted records) = NoneWaits
@@ -65,7 +65,7 @@ answer_in (Malformed at) = NoneWaits
 answer_in (Refused at why) = NoneWaits
 answer_in (AnotherChoice at) = NoneWaits
 answer_in (Ours answer) = answer
-answer_in (Record kind stamp class length) = NoneWaits
+answer_in (Record n) = NoneWaits
 
 abbrev joined : List (List ℕ) → List ℕ
 joined ws = word ws 0 ++ further (drop 1 ws)
@@ -80,12 +80,12 @@ answer_back (Malformed at) = refl
 answer_back (Refused at why) = refl
 answer_back (AnotherChoice at) = refl
 answer_back (Ours answer) = refl
-answer_back (Record kind stamp class length) = rw (number_low kind)
+answer_back (Record n) = rw (number_low n.kind)
 
 -- the line of these words, where the refusal and the answer are these if it has one
 pub line_in : Refusal → Answer → List (List ℕ) → LogLine
 line_in why answer ws =
-    cond (starts_low (word ws 0)) (Record (number ws 0) (number ws 1) (number ws 2) (number ws 3))
+    cond (starts_low (word ws 0)) (Record (record { kind = number ws 0; stamp = number ws 1; class = number ws 2; length = number ws 3 }))
     (cond (starts (word ws 0) a) (Accepted (number ws 1))
     (cond (starts (word ws 0) o) (Ours answer)
     (cond (starts (word ws 2) m) (Malformed (read_colon (word ws 1)))
@@ -98,4 +98,4 @@ line_back (Malformed at) = simp read_colon_lem
 line_back (Refused at why) = simp read_colon_lem
 line_back (AnotherChoice at) = simp read_colon_lem
 line_back (Ours answer) = refl
-line_back (Record kind stamp class length) = simp (number_low, read_back)
+line_back (Record n) = simp (number_low, read_back)

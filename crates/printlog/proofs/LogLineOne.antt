@@ -21,7 +21,7 @@ plain_log (Malformed at) = simp plain_colon
 plain_log (Refused at why) = simp (plain_colon, decimal_plain)
 plain_log (AnotherChoice at) = simp plain_colon
 plain_log (Ours answer) = plain_line answer
-plain_log (Record kind stamp class length) = simp decimal_plain
+plain_log (Record n) = simp decimal_plain
 
 -- so two lines with the same text have the same words
 log_words : (k l : LogLine) → log_line_of k ≡ log_line_of l → log_head_of k ∷ log_words_of k ≡ log_head_of l ∷ log_words_of l

@@ -21,7 +21,7 @@ log_head_of (Malformed at) = record_word
 log_head_of (Refused at why) = record_word
 log_head_of (AnotherChoice at) = record_word
 log_head_of (Ours answer) = our_word
-log_head_of (Record kind stamp class length) = decimal kind
+log_head_of (Record n) = decimal n.kind
 
 abbrev pub log_words_of : LogLine → List (List ℕ)
 log_words_of (Accepted records) = decimal records ∷ records_word ∷ []
@@ -29,7 +29,7 @@ log_words_of (Malformed at) = with_colon (decimal at) ∷ malformed_word ∷ []
 log_words_of (Refused at why) = with_colon (decimal at) ∷ refused_word ∷ decimal (number_of why) ∷ []
 log_words_of (AnotherChoice at) = with_colon (decimal at) ∷ another_word ∷ choice_word ∷ []
 log_words_of (Ours answer) = with_colon rules_word ∷ head_of answer ∷ words_of answer
-log_words_of (Record kind stamp class length) = decimal stamp ∷ decimal class ∷ decimal length ∷ []
+log_words_of (Record n) = decimal n.stamp ∷ decimal n.class ∷ decimal n.length ∷ []
 
 -- the line
 unfoldable pub log_line_of : LogLine → List ℕ

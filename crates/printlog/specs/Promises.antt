@@ -18,4 +18,4 @@ PrintsLogLine line old new end = Printed old 0 (log_line_of line) new end
 -- what a call leaves in the log: its record's line, or nothing
 abbrev pub PrintsEntry : Entry → List ℕ → List ℕ → ℕ → Type 0
 PrintsEntry None old new end = (new ≡ old) × (end ≡ 0)
-PrintsEntry (Some n) old new end = PrintsLogLine (Record n.kind n.stamp n.class n.length) old new end
+PrintsEntry (Some n) old new end = PrintsLogLine (Record n) old new end

@@ -13,4 +13,4 @@ LogLineOne = (a b : LogLine) → log_line_of a ≡ log_line_of b → a ≡ b
 
 -- the text of a record's line, number by number: `record_line`
 abbrev pub RecordLine : Type 0
-RecordLine = (a b c d : ℕ) → log_line_of (Record a b c d) ≡ decimal a ++ (space ∷ (decimal b ++ (space ∷ (decimal c ++ (space ∷ (decimal d ++ (line_feed ∷ [])))))))
+RecordLine = (a b c d : ℕ) → log_line_of (Record (record { kind = a; stamp = b; class = c; length = d })) ≡ decimal a ++ (space ∷ (decimal b ++ (space ∷ (decimal c ++ (space ∷ (decimal d ++ (line_feed ∷ [])))))))

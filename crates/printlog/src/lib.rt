@@ -2,15 +2,16 @@
 
 #![tactic(auto)]
 
-ghost use Rattle.std.specs.Prelude.{◌∷◌, ◌++◌, ◌+◌, ◌≤◌, length};
+ghost use Rattle.std.specs.Prelude.{◌∷◌, ◌++◌, ◌+◌, ◌≤◌};
 ghost use Rattle.wording.specs.Letters.{space};
 ghost use Rattle.wording.specs.Decimal.{decimal};
-ghost use Rattle.print.specs.Promises.{Printed, Within, line_room};
+ghost use Rattle.print.specs.Promises.{HasRoom, Prints, Within, line_room};
 ghost use Rattle.printlog.specs.Spelled.{record_word};
 ghost use Rattle.printlog.specs.Lines.{with_colon, log_line_of};
 ghost use Rattle.printlog.specs.Promises.{PrintsLogLine, PrintsEntry, log_line_room};
 
-use print::{Answer, put};
+use print::Answer;
+use print::put::Printer;
 use records::Numbers;
 use tree::Refusal;
 
@@ -20,28 +21,12 @@ pub const LINE: usize = 256;
 // What is printed as a line of a log.
 #[derive(Clone, Copy)]
 pub enum LogLine {
-    Accepted {
-        records: u64,
-    },
-    Malformed {
-        record: u64,
-    },
-    Refused {
-        record: u64,
-        why: Refusal,
-    },
-    AnotherChoice {
-        record: u64,
-    },
-    Ours {
-        answer: Answer,
-    },
-    Record {
-        kind: u32,
-        stamp: u32,
-        class: u32,
-        length: u32,
-    },
+    Accepted { records: u64 },
+    Malformed { record: u64 },
+    Refused { record: u64, why: Refusal },
+    AnotherChoice { record: u64 },
+    Ours { answer: Answer },
+    Record { numbers: Numbers },
 }
 
 // The line, at the front of the buffer. The answer is where it ends.
@@ -49,57 +34,55 @@ pub fn line(line: LogLine, out: &mut [u8; LINE]) -> usize
     ensures printed { PrintsLogLine line out.old out.new result }
     ensures room { result ≤ log_line_room }
 {
-    whole(out, line)
+    let mut printer = Printer { out, at: 0 };
+    whole(&mut printer, line);
+    printer.at
 }
 
-// The same, into any buffer with room for it.
-fn whole(out: &mut [u8], line: LogLine) -> usize
-    requires { log_line_room ≤ length out.old }
-    ensures { Printed out.old 0 (log_line_of line) out.new result }
+// The line, by any printer that has room for it.
+fn whole(printer: &mut Printer, line: LogLine)
+    requires { HasRoom printer.old log_line_room }
+    ensures { Prints printer.old (log_line_of line) printer.new }
 {
     match line {
         LogLine::Accepted { records } => {
-            let end = put::named(out, 0, b"accepted", records);
-            put::text(out, end, b" records\n")
+            printer.named(b"accepted", records);
+            printer.text(b" records\n");
         }
         LogLine::Malformed { record } => {
-            let end = numbered(out, record);
-            put::text(out, end, b" malformed\n")
+            numbered(printer, record);
+            printer.text(b" malformed\n");
         }
-        LogLine::Refused { record, why } => refused(out, record, why),
+        LogLine::Refused { record, why } => refused(printer, record, why),
         LogLine::AnotherChoice { record } => {
-            let end = numbered(out, record);
-            put::text(out, end, b" another choice\n")
+            numbered(printer, record);
+            printer.text(b" another choice\n");
         }
         LogLine::Ours { answer } => {
-            let end = put::text(out, 0, b"our rules: ");
-            put::line(out, end, answer)
+            printer.text(b"our rules: ");
+            printer.line(answer);
         }
-        LogLine::Record {
-            kind,
-            stamp,
-            class,
-            length,
-        } => numbers(out, kind, stamp, class, length),
+        LogLine::Record { numbers: record } => numbers(printer, record),
     }
 }
 
 // As `record 17:`.
-fn numbered(out: &mut [u8], number: u64) -> usize
-    requires { log_line_room ≤ length out.old }
-    ensures { Printed out.old 0 (record_word ++ (space ∷ with_colon (decimal number))) out.new result × (result ≤ 28) }
+fn numbered(printer: &mut Printer, number: u64)
+    requires { HasRoom printer.old 28 }
+    ensures prints { Prints printer.old (record_word ++ (space ∷ with_colon (decimal number))) printer.new }
+    ensures room { printer.new.at ≤ printer.old.at + 28 }
 {
-    let end = put::named(out, 0, b"record", number);
-    put::text(out, end, b":")
+    printer.named(b"record", number);
+    printer.text(b":");
 }
 
 // As `record 17: refused 13`.
-fn refused(out: &mut [u8], number: u64, why: Refusal) -> usize
-    requires { log_line_room ≤ length out.old }
-    ensures { Printed out.old 0 (log_line_of (LogLine.Refused number why)) out.new result }
+fn refused(printer: &mut Printer, number: u64, why: Refusal)
+    requires { HasRoom printer.old log_line_room }
+    ensures { Prints printer.old (log_line_of (LogLine.Refused number why)) printer.new }
 {
-    let end = numbered(out, number);
-    put::last(out, end, b" refused", tree::number(why) as u64)
+    numbered(printer, number);
+    printer.last(b" refused", tree::number(why) as u64);
 }
 
 // What a call leaves in the log, as a line at the front of the buffer, or nothing. The answer is where it ends.
@@ -107,26 +90,20 @@ pub fn entry(entry: Option<Numbers>, out: &mut [u8; print::LINE]) -> usize
     ensures printed { PrintsEntry entry out.old out.new result }
     ensures within { Within result out.new × (result ≤ line_room) }
 {
-    match entry {
-        None => 0,
-        Some(
-            Numbers {
-                kind,
-                stamp,
-                class,
-                length,
-            },
-        ) => numbers(out, kind, stamp, class, length),
+    let mut printer = Printer { out, at: 0 };
+    if let Some(record) = entry {
+        numbers(&mut printer, record);
     }
+    printer.at
 }
 
 // As `1 0 3 200`.
-fn numbers(out: &mut [u8], kind: u32, stamp: u32, class: u32, bytes: u32) -> usize
-    requires { line_room ≤ length out.old }
-    ensures { Printed out.old 0 (log_line_of (LogLine.Record kind stamp class bytes)) out.new result }
+fn numbers(printer: &mut Printer, numbers: Numbers)
+    requires { HasRoom printer.old line_room }
+    ensures { Prints printer.old (log_line_of (LogLine.Record numbers)) printer.new }
 {
-    let first = put::spelled(out, 0, kind as u64);
-    let second = put::number(out, first, stamp as u64);
-    let third = put::number(out, second, class as u64);
-    put::last(out, third, b"", bytes as u64)
+    printer.spelled(numbers.kind as u64);
+    printer.number(numbers.stamp as u64);
+    printer.number(numbers.class as u64);
+    printer.last(b"", numbers.length as u64);
 }

@@ -7,11 +7,11 @@ ghost use Rattle.std.specs.Prelude.{◌+◌, ◌*◌, ◌≤◌, length};
 ghost use Rattle.tree.specs.Trees.{most_classes};
 ghost use Rattle.reason.specs.Reasons.{numbers};
 ghost use Rattle.print.specs.Lines.{further};
-ghost use Rattle.print.specs.Promises.{Printed};
+ghost use Rattle.print.specs.Promises.{HasRoom, Prints};
 ghost use Rattle.printwhy.specs.Lines.{why_words_of, why_line_of, line_text_at, sheet_text};
 ghost use Rattle.printwhy.specs.Promises.{PrintsSheet, why_line_room, reason_room, sheet_room};
 
-use print::put;
+use print::put::Printer;
 use reason::{NUMBERS, Reason};
 
 // Room for the lines of as many leaves as a tree has classes at most: 64 of 144 bytes.
@@ -23,71 +23,80 @@ pub fn sheet(sheet: &[u64], lines: usize, out: &mut [u8; TEXT]) -> usize
     ensures printed { PrintsSheet sheet.now lines out.old out.new result }
     ensures room { result ≤ sheet_room }
 {
-    all(out, sheet, lines)
+    let mut printer = Printer { out, at: 0 };
+    all(&mut printer, sheet, lines);
+    printer.at
 }
 
-// The same, into any buffer with room for it.
-fn all(out: &mut [u8], sheet: &[u64], lines: usize) -> usize
-    requires { (numbers * lines ≤ length sheet.now) × (lines ≤ most_classes) × (sheet_room ≤ length out.old) }
-    ensures { Printed out.old 0 (sheet_text sheet.now lines) out.new result × (result ≤ sheet_room) }
+// The same, by any printer that has room for them.
+fn all(printer: &mut Printer, sheet: &[u64], lines: usize)
+    requires { (numbers * lines ≤ length sheet.now) × (lines ≤ most_classes) × HasRoom printer.old sheet_room }
+    ensures prints { Prints printer.old (sheet_text sheet.now lines) printer.new }
+    ensures room { printer.new.at ≤ printer.old.at + sheet_room }
 {
     let (rows, _) = sheet.as_chunks::<NUMBERS>();
-    let mut at = 0;
     for row in &rows[..lines] {
-        at = put_row(out, at, *row);
+        put_row(printer, *row);
     }
-    at
 }
 
 // The line of five numbers: the leaf, the reason's number and its values.
-fn put_row(out: &mut [u8], at: usize, row: [u64; NUMBERS]) -> usize
-    requires { at + why_line_room ≤ length out.old }
-    ensures { Printed out.old at (line_text_at row 0) out.new result × (result ≤ at + why_line_room) }
+fn put_row(printer: &mut Printer, row: [u64; NUMBERS])
+    requires { HasRoom printer.old why_line_room }
+    ensures prints { Prints printer.old (line_text_at row 0) printer.new }
+    ensures room { printer.new.at ≤ printer.old.at + why_line_room }
 {
     let [leaf, number, first, second, third] = row;
-    let reason = reason::reason_of(number, first, second, third);
-    line(out, at, leaf, reason)
+    line(
+        printer,
+        leaf,
+        reason::reason_of(number, first, second, third),
+    );
 }
 
 // As `leaf 4: has no real-time curve`.
-fn line(out: &mut [u8], at: usize, leaf: u64, reason: Reason) -> usize
-    requires { at + why_line_room ≤ length out.old }
-    ensures { Printed out.old at (why_line_of leaf reason) out.new result × (result ≤ at + why_line_room) }
+fn line(printer: &mut Printer, leaf: u64, reason: Reason)
+    requires { HasRoom printer.old why_line_room }
+    ensures prints { Prints printer.old (why_line_of leaf reason) printer.new }
+    ensures room { printer.new.at ≤ printer.old.at + why_line_room }
 {
-    let numbered = put::named(out, at, b"leaf", leaf);
-    let end = put::text(out, numbered, b":");
-    why(out, end, reason)
+    printer.named(b"leaf", leaf);
+    printer.text(b":");
+    why(printer, reason);
 }
 
 // The reason, up to the end of its line.
-fn why(out: &mut [u8], at: usize, reason: Reason) -> usize
-    requires { at + reason_room ≤ length out.old }
-    ensures { Printed out.old at (further (why_words_of reason)) out.new result × (result ≤ at + reason_room) }
+#[tactic(auto, unfolding(print::specs::Lines::further))]
+fn why(printer: &mut Printer, reason: Reason)
+    requires { HasRoom printer.old reason_room }
+    ensures prints { Prints printer.old (further (why_words_of reason)) printer.new }
+    ensures room { printer.new.at ≤ printer.old.at + reason_room }
 {
     match reason {
-        Reason::NothingWaits => put::text(out, at, b" nothing waits\n"),
-        Reason::ChosenByDeadline => put::text(out, at, b" chosen by deadline\n"),
-        Reason::NoCurve => put::text(out, at, b" has no real-time curve\n"),
-        Reason::NotEligible { until } => put::last(out, at, b" not eligible until", until),
+        Reason::NothingWaits => printer.text(b" nothing waits\n"),
+        Reason::ChosenByDeadline => printer.text(b" chosen by deadline\n"),
+        Reason::NoCurve => printer.text(b" has no real-time curve\n"),
+        Reason::NotEligible { until } => printer.last(b" not eligible until", until),
         Reason::LaterDeadline { chosen } => {
-            let end = put::named(out, at, b" behind leaf", chosen);
-            put::text(out, end, b" by a later deadline\n")
+            printer.named(b" behind leaf", chosen);
+            printer.text(b" by a later deadline\n");
         }
         Reason::HigherNumber { chosen } => {
-            let end = put::named(out, at, b" behind leaf", chosen);
-            put::text(out, end, b" by an equal deadline and a higher number\n")
+            printer.named(b" behind leaf", chosen);
+            printer.text(b" by an equal deadline and a higher number\n");
         }
-        Reason::ChosenByShare => put::text(out, at, b" chosen by share\n"),
-        Reason::PassedOver { class, child, time } => passed_over(out, at, class, child, time),
+        Reason::ChosenByShare => printer.text(b" chosen by share\n"),
+        Reason::PassedOver { class, child, time } => passed_over(printer, class, child, time),
     }
 }
 
 // As ` passed over at class 4 for child 5 with virtual time 2080`.
-fn passed_over(out: &mut [u8], at: usize, class: u64, child: u64, time: u64) -> usize
-    requires { at + reason_room ≤ length out.old }
-    ensures { Printed out.old at (further (why_words_of (Reason.PassedOver class child time))) out.new result × (result ≤ at + reason_room) }
+fn passed_over(printer: &mut Printer, class: u64, child: u64, time: u64)
+    requires { HasRoom printer.old reason_room }
+    ensures prints { Prints printer.old (further (why_words_of (Reason.PassedOver class child time))) printer.new }
+    ensures room { printer.new.at ≤ printer.old.at + reason_room }
 {
-    let classed = put::named(out, at, b" passed over at class", class);
-    let taken = put::named(out, classed, b" for child", child);
-    put::last(out, taken, b" with virtual time", time)
+    printer.named(b" passed over at class", class);
+    printer.named(b" for child", child);
+    printer.last(b" with virtual time", time);
 }

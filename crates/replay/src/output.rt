@@ -3,6 +3,7 @@ ghost use Rattle.std.specs.Prelude.{◌≡◌, ◌≤◌, length};
 ghost use Rattle.replay.specs.Text.{Queued};
 
 use console::TURN;
+use print::put::Printer;
 
 // The bytes in front wait. Whether those before could be written where they had to be.
 #[derive(Drop)]
@@ -39,6 +40,11 @@ impl Output {
         if self.bytes.len() - self.used < line.len() {
             self.flush(rt);
         }
-        self.used = print::put::text(&mut self.bytes, self.used, line);
+        let mut printer = Printer {
+            out: &mut self.bytes,
+            at: self.used,
+        };
+        printer.text(line);
+        self.used = printer.at;
     }
 }

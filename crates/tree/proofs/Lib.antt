@@ -8,5 +8,6 @@ pub mod One
 pub mod Right
 pub mod Rule
 pub mod Same
+pub mod Stores
 pub mod Verdicts
 pub mod Some

@@ -1,18 +1,12 @@
 -- Laws on runs of stores: `sets l i vs` is the list l with the elements of vs from place i on.
 -- Assumes nothing.
-use Prim.Native.Nat.{ℕ, suc, ◌+◌, ◌≤◌}
-use mathlib.Core.Path.{◌≡◌, sym, ◌∙◌}
-use mathlib.Core.List.{List, [], ◌∷◌, ◌++◌, append_assoc, append-nil}
-use native.Mathlib.Nat.{add-zero, zero-add, suc-add, add-suc}
+use Prim.Native.Nat.{ℕ, ◌≤◌}
+use mathlib.Core.Path.{◌≡◌, ◌∙◌}
+use mathlib.Core.List.{List, ◌++◌, append-nil}
+use native.Mathlib.Nat.{zero-add}
 use native.Mathlib.Omega.{arith}
-use lib.ListN.{length, take, drop, set}
-use lib.Seq.{sets, sets-eq, drop-length, drop-drop}
-use borrow.Rule.Slice.PartMut.{put_mid}
-
--- one run of stores, and then the next, is one run of both
-pub sets_append : (xs ys l : List ℕ) (i : ℕ) → sets (sets l i xs) (i + length xs) ys ≡ sets l i (xs ++ ys)
-sets_append [] ys l i = rw add-zero
-sets_append (x ∷ xs) ys l i = rw (add-suc, ← suc-add) (sets_append xs ys (set l i x) (suc i))
+use lib.ListN.{length, drop}
+use lib.Seq.{sets, sets-eq, drop-length}
 
 -- a run from the front leaves what lies beyond it
 pub sets_front : (l vs : List ℕ) → length vs ≤ length l → sets l 0 vs ≡ vs ++ drop (length vs) l
@@ -21,7 +15,3 @@ sets_front l vs fits = sets-eq vs l 0 (omega arith) ∙ rw zero-add
 -- a run as long as the list leaves nothing of it
 pub sets_all : (l vs : List ℕ) → length l ≡ length vs → sets l 0 vs ≡ vs
 sets_all l vs same = sets_front l vs (omega arith) ∙ rw (← same, drop-length, append-nil)
-
--- a part that was lent, and has come back, is a run at its place
-pub sets_part : (l : List ℕ) (at n : ℕ) (vs : List ℕ) → length vs ≡ n → at + n ≤ length l → put_mid at n l vs ≡ sets l at vs
-sets_part l at n vs same fits = rw drop-drop (sym (sets-eq vs l at (omega arith) ∙ rw same (append_assoc (take at l) vs (drop (at + n) l))))

@@ -9,7 +9,7 @@ use lib.Seq.{sets}
 use Rattle.file.specs.declared.Order.{Order}
 use Rattle.file.specs.declared.Order.TheVariants.{Big, Little}
 use Rattle.file.specs.Writing.{word_bytes, bytes_of}
-use Rattle.file.proofs.WriteLaws.Stores.{sets_append}
+use Rattle.tree.proofs.Stores.{sets_append}
 
 -- the little-endian image of a word has its bytes reversed
 pub little_reversed : (w : ℕ) → word_bytes Little w ≡ reverse (word_bytes Big w)

@@ -1,8 +1,7 @@
 -- `printlog::numbered` meets its contract: the word and the number, and then the colon.
 -- Assumes nothing.
-use native.Mathlib.Omega.{arith}
 use Rattle.print.proofs.Stores.{then}
 use Rattle.printlog.proofs.numbered.Goals as goal
 
-pub returns : goal.returns
-returns c = (then c.named-end.ensures.0 c.text.ensures, omega (arith, c.text.ensures.ends))
+pub returns-clause-prints : goal.returns-clause-prints
+returns-clause-prints c = then c.named.ensures.prints c.text.ensures

@@ -7,4 +7,4 @@ use Rattle.printlog.proofs.numbers.Goals as goal
 
 pub returns : goal.returns
 unfolding further log_line_of
-returns c = then c.spelled-first.ensures.0 (then c.number-second.ensures.0 (then c.number-third.ensures.0 c.last.ensures.0))
+returns c = then c.spelled.ensures.prints (then c.number.ensures.prints (then c.number-2.ensures.prints c.last.ensures.prints))

@@ -13,4 +13,4 @@ use Rattle.printlog.proofs.refused.Goals as goal
 
 pub returns : goal.returns
 unfolding further log_line_of
-returns c = same_as (ap (λ (k : ℕ). record_word ++ further (with_colon (decimal c.args.number) ∷ refused_word ∷ decimal k ∷ [])) (sym c.number.ensures)) (then c.numbered-end.ensures.0 c.last.ensures.0)
+returns c = same_as (ap (λ (k : ℕ). record_word ++ further (with_colon (decimal c.args.number) ∷ refused_word ∷ decimal k ∷ [])) (sym c.number.ensures)) (then c.numbered.ensures.prints c.last.ensures.prints)

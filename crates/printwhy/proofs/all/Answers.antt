@@ -11,7 +11,7 @@ use lib.ListN.{length, get_or, take, drop}
 use lib.Seq.{length-take-le}
 use Rattle.std.specs.Simd.{first_chunks}
 use Rattle.std.proofs.lemmas.List.{get_or-take, get_or-drop}
-use Rattle.print.proofs.Stores.{then, same_as}
+use Rattle.print.proofs.Stores.{nothing, then, same_as}
 use Rattle.reason.specs.Reasons.{numbers}
 use Rattle.printwhy.specs.Lines.{line_text_at, sheet_text}
 use Rattle.printwhy.proofs.all.Goals as goal
@@ -40,19 +40,18 @@ row_text sheet d rows n lines i e l m =
 
 pub loop-row-init : goal.loop-row-init
 unfolding sheet_text
-loop-row-init c = (omega arith, refl, record { holds = refl; ends = refl; within = (omega arith, refl) })
+loop-row-init c = (omega arith, nothing c.args.printer.now (omega arith))
 
 pub loop-row-preserved : goal.loop-row-preserved
 loop-row-preserved c =
     let loop = c.loop-row in
-    let row = c.put_row-at.ensures in
+    let row = c.put_row.ensures in
     let sheet = c.args.sheet.now in
     let room : c.args.lines ≤ length sheet / 5 = omega arith in
     let whole : c.args.lines ≤ length c.as_chunks.result.0.now = omega (arith, c.as_chunks.ensures.front_len) in
     let below : loop.row-index < c.args.lines = omega (arith, length-take-le c.args.lines c.as_chunks.result.0.now whole) in (
-      omega (arith, row.1),
-      omega arith,
+      omega (arith, row.room),
       same_as (text_next sheet loop.row-index)
-          (then loop.invariant.2
-          (same_as (sym (row_text sheet _ _ (length sheet / 5) c.args.lines loop.row-index c.as_chunks.ensures.front below room)) row.0)),
+          (then loop.invariant.1
+          (same_as (sym (row_text sheet _ _ (length sheet / 5) c.args.lines loop.row-index c.as_chunks.ensures.front below room)) row.prints)),
     )

@@ -1,7 +1,6 @@
 -- `printwhy::line` meets its contract: the leaf's number, its colon, and then the reason.
 -- Assumes nothing.
 use Prim.Native.Nat.{ℕ}
-use native.Mathlib.Omega.{arith}
 use mathlib.Core.Path.{ap}
 use mathlib.Core.List.{List, [], ◌∷◌, ◌++◌, append_assoc}
 use Rattle.wording.specs.Letters.{space, colon}
@@ -12,13 +11,9 @@ use Rattle.printwhy.specs.Spelled.{leaf_word}
 use Rattle.printwhy.specs.Lines.{why_words_of, why_line_of}
 use Rattle.printwhy.proofs.line.Goals as goal
 
-pub returns : goal.returns
+pub returns-clause-prints : goal.returns-clause-prints
 unfolding further why_line_of
-returns c =
-    let start = c.args in
-    let leaf = c.named-numbered.ensures in
-    let colons = c.text-end.ensures in
-    let reason = c.why.ensures in (
-      same_as (ap (λ (s : List ℕ). leaf_word ++ (space ∷ s)) (append_assoc (decimal start.leaf) (colon ∷ []) (further (why_words_of start.reason)))) (then leaf.0 (then colons reason.0)),
-      omega (arith, leaf.1, colons.ends, reason.1),
-    )
+returns-clause-prints c =
+    same_as
+    (ap (λ (s : List ℕ). leaf_word ++ (space ∷ s)) (append_assoc (decimal c.args.leaf) (colon ∷ []) (further (why_words_of c.args.reason))))
+    (then c.named.ensures.prints (then c.text.ensures c.why.ensures.prints))

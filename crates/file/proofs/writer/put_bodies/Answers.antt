@@ -12,7 +12,7 @@ use Rattle.tree.specs.declared.Class.{Class}
 use Rattle.tree.specs.Trees.{class_at, curve_of}
 use Rattle.file.specs.declared.Order.TheVariants.{Big}
 use Rattle.file.specs.Writing.{bytes_of, curve_bytes, body_words, body_place, bodies_words}
-use Rattle.file.proofs.WriteLaws.Stores.{sets_part}
+use Rattle.tree.proofs.Stores.{sets_part}
 use Rattle.file.proofs.WriteLaws.Words.{words_on, no_word, length_bytes_of}
 use Rattle.file.proofs.WriteLaws.Bodies.{place_first, place_next, place_most, places_rise, body_most, body_length, numbered_none, numbered_next, bodies_length}
 use Rattle.file.proofs.writer.put_bodies.Goals as goal

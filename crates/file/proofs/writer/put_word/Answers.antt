@@ -5,7 +5,7 @@ use native.Mathlib.Omega.{arith}
 use lib.ListN.{length}
 use lib.Seq.{sets}
 use Rattle.file.specs.Writing.{word_bytes}
-use Rattle.file.proofs.WriteLaws.Stores.{sets_part}
+use Rattle.tree.proofs.Stores.{sets_part}
 use Rattle.file.proofs.writer.put_word.Goals as goal
 
 pub returns : goal.returns
