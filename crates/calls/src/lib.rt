@@ -41,6 +41,7 @@ pub fn parse(line: &[u8]) -> Result<Option<Call>, LineError>
     call_in(uncomment(line))
 }
 
+// Stays: as a `match` with byte strings for patterns it was tried: a goal was left for each byte that may differ, 18 in all.
 #[tactic(auto, using(crate::proofs::Named::call_by))]
 fn call_in(text: &[u8]) -> Result<Option<Call>, LineError>
     ensures { result ≡ call_in text.now }

@@ -7,7 +7,7 @@
 mod faults;
 mod trees;
 
-ghost use Rattle.std.specs.Prelude.{IfOk, IfSome};
+ghost use Rattle.std.specs.Prelude.{◌≡◌, IfOk, IfSome};
 ghost use Rattle.print.specs.Promises.{Within};
 
 use faults::{Lossy, Reason};
@@ -75,14 +75,18 @@ pub fn say_tree(rt: &(impl Print + Eprint), tree: Tree) -> io::Result<()> {
 }
 
 // A name, and what is wrong with it, on standard error. That this can't be written is not said anywhere.
-pub fn complain(rt: &impl Eprint, name: &[u8], wrong: &str) -> Stop {
-    let name = Lossy(name);
+pub fn complain(rt: &impl Eprint, name: &[u8], wrong: &[u8]) -> Stop
+    ensures { result ≡ Stop.Failed }
+{
+    let (name, wrong) = (Lossy(name), Lossy(wrong));
     let _ = eprintln!(rt; "{name}: {wrong}");
     Stop::Failed
 }
 
 // A name, and why it could not be read or written, as the system says it.
-pub fn fail(rt: &impl Eprint, name: &[u8], error: io::Error) -> Stop {
+pub fn fail(rt: &impl Eprint, name: &[u8], error: io::Error) -> Stop
+    ensures { result ≡ Stop.Failed }
+{
     let name = Lossy(name);
     let reason = Reason(error);
     let _ = eprintln!(rt; "{name}: {reason}");
@@ -90,14 +94,19 @@ pub fn fail(rt: &impl Eprint, name: &[u8], error: io::Error) -> Stop {
 }
 
 // The line of the answer that a program stops at, whether it could be written or not.
-pub fn refuse(rt: &(impl Print + Eprint), answer: Answer) -> Stop {
+pub fn refuse(rt: &(impl Print + Eprint), answer: Answer) -> Stop
+    ensures { result ≡ Stop.Failed }
+{
     let _ = say(rt, answer);
     Stop::Failed
 }
 
 // The usage, on standard error.
-pub fn usage(rt: &impl Eprint, line: &str) -> Stop {
-    let _ = rt.eprintln(line);
+pub fn usage(rt: &impl Eprint, line: &[u8]) -> Stop
+    ensures { result ≡ Stop.Misused }
+{
+    let line = Lossy(line);
+    let _ = eprint!(rt; "{line}");
     Stop::Misused
 }
 
@@ -173,7 +182,7 @@ pub fn read_file(
     rt: &(impl Files + Eprint),
     name: &[u8],
     bytes: &mut [u8],
-    wrong: &str,
+    wrong: &[u8],
 ) -> Result<usize, Stop>
     ensures { IfOk result (λ n. Within n bytes.new) }
 {

@@ -67,6 +67,7 @@ impl TryFrom<Code> for Curve {
 }
 
 // The curve of a kind with its numbers; none where the kind is unknown.
+// Stays: it answers for an unknown kind too, as hosts in C ask it (`Decodes`), where `try_from` names an error.
 pub fn decode(kind: u32, first: u32, second: u32, third: u32) -> Curve
     ensures { Decodes kind first second third result }
 {

@@ -37,6 +37,7 @@ pub fn hfsc_start_words(
     tell(sched::start(tree_of(tree), stamp, words, lengths), fault)
 }
 
+// Stays: two lines are those of `hfsc_start_bursts` too: the arguments of both are the C interface, and one function of the two lines would take five.
 // A state started from a tree file. A refused file gives the state of no classes, as a refused tree does.
 pub fn hfsc_start_file(
     words: &mut Words,

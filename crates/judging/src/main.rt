@@ -20,12 +20,12 @@ fn main(rt: HostRuntime) {
 
 fn run(rt: &(impl Env + Files + Print + Eprint)) -> Result<(), Stop> {
     if console::arguments(rt) != 4 {
-        return Err(console::usage(rt, "usage: judge TREE FIRST LOG"));
+        return Err(console::usage(rt, b"usage: judge TREE FIRST LOG\n"));
     }
     let mut word = [0u8; ARGUMENT];
     let n = console::word(rt, 2, &mut word);
     let Ok(first) = wording::number(&word[..n]) else {
-        return Err(console::usage(rt, "judge: FIRST is not a number of 32 bits"));
+        return Err(console::usage(rt, b"judge: FIRST is not a number of 32 bits\n"));
     };
     judge_from(rt, first)
 }

@@ -16,7 +16,7 @@ fn main(rt: HostRuntime) {
 
 fn make(rt: &(impl Env + Files + Print + Eprint)) -> Result<(), Stop> {
     if console::arguments(rt) != 3 {
-        return Err(console::usage(rt, "usage: maketree TEXT TREE"));
+        return Err(console::usage(rt, b"usage: maketree TEXT TREE\n"));
     }
     let mut name = [0u8; ARGUMENT];
     let n = console::name(rt, 1, b"TEXT", &mut name)?;
@@ -30,7 +30,7 @@ fn text_file(rt: &(impl Env + Files + Print + Eprint), name: &[u8]) -> Result<()
         rt,
         name,
         &mut bytes,
-        "longer than 65536 bytes, no text of a tree",
+        b"longer than 65536 bytes, no text of a tree",
     )?;
     let draft = treetext::read(&bytes[..n]);
     match draft.fault {

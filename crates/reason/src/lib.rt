@@ -67,7 +67,7 @@ pub fn put(sheet: &mut [u64], at: usize, leaf: u64, reason: Reason)
 }
 
 // The reason that a line's number and values say. A number that no reason has says that nothing waits.
-// Stays: numbers for reasons are the C interface, and the definition `reason_of` has a reason for each: `TryFrom` would have its caller name the last arm.
+// Stays: a sheet is a list of numbers, and the definition `reason_of` has a reason for each: `TryFrom` would have its caller name the last arm.
 #[tactic(auto, unfolding(crate::specs::Reasons::reason_of))]
 pub fn reason_of(number: u64, first: u64, second: u64, third: u64) -> Reason
     ensures { result ≡ reason_of number first second third }

@@ -26,7 +26,7 @@ fn run(rt: &(impl Env + Files + Print + Eprint)) -> Result<(), Stop> {
 fn misused(rt: &impl Eprint) -> Stop {
     console::usage(
         rt,
-        "usage: replay TREE [CALLS]\n       replay --log TREE CALLS",
+        b"usage: replay TREE [CALLS]\n       replay --log TREE CALLS\n",
     )
 }
 

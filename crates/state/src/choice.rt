@@ -17,6 +17,7 @@ pub struct Sender {
     pub rule: Rule,
 }
 
+// Stays: `LARGEST` is what the table itself has where there is no time, so that one comparison asks for both; an `Option` of the two was tried in `fair` (`Spread`), and cost up to 9 percent.
 // The real-time rule: of the leaves that are eligible now the one of smallest deadline, then of lowest
 // number.
 fn soonest(words: &Words, tick: u64) -> Option<usize>

@@ -32,6 +32,7 @@ pub struct Fault {
     pub wrong: Wrong,
 }
 
+// Stays: `headed` goes with no value: the tree is there before the line `tree`, with no class, and the definitions of a draft add to it.
 // A text, as far as it was read: the lines so far, whether `tree` was among them, the first wrong one, and the classes.
 #[derive(Clone, Copy)]
 pub struct Draft {
@@ -61,6 +62,7 @@ pub fn parse(line: &[u8]) -> Result<Option<Entry>, EntryError>
 }
 
 // `tree` is alone.
+// Stays: no `match` with byte strings for patterns (`call_in` of `calls`).
 #[tactic(auto, using(crate::proofs::Named::entry_by), unfolding(crate::specs::Entries::head_in))]
 fn entry_in(text: &[u8]) -> Result<Option<Entry>, EntryError>
     ensures { result ≡ entry_in text.now }
@@ -112,6 +114,7 @@ fn labelled(text: &[u8], name: &[u8]) -> Result<u32, NumberError>
 }
 
 // The curve that ends a line.
+// Stays: no `match` with byte strings for patterns (`call_in` of `calls`).
 #[tactic(auto, unfolding(crate::specs::Entries::curve_in, crate::specs::Entries::none_in, crate::specs::Entries::straight_in))]
 fn curve_in(text: &[u8]) -> Result<Curve, NumberError>
     ensures { result ≡ curve_in text.now }

@@ -14,7 +14,7 @@ fn main(rt: HostRuntime) -> io::Result<()> {
     let mut name = [0u8; ARGUMENT];
     let n = console::word(&rt, 1, &mut name);
     let mut bytes = [0u8; 4096];
-    let Ok(n) = console::read_file(&rt, &name[..n], &mut bytes, "too long") else {
+    let Ok(n) = console::read_file(&rt, &name[..n], &mut bytes, b"too long") else {
         return Ok(());
     };
     accepted::run(&rt, &bytes[..n])?;

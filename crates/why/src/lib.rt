@@ -83,6 +83,7 @@ fn fill(words: &Words, tick: u64, sheet: &mut [u64])
     let count = header(words, COUNT) as usize;
     let sender = choose(words, tick);
     let mut at = 0;
+    // Stays: the place goes on at a leaf alone; an iterator over the lines of the sheet would be asked for each by hand, and its `None` answered.
     for i in 0..count {
         if get(words, i, CHILD) == 0 {
             let reason = of_leaf(words, tick, sender, i);

@@ -14,6 +14,7 @@ pub enum NumberError {
 }
 
 // Whether a word is a number, of whatever size.
+// Stays: it is public, with a definition of its own.
 pub fn is_number(operand: Result<u32, NumberError>) -> bool
     ensures { result ≡ is_number operand }
 {
@@ -113,6 +114,7 @@ pub fn is_blank(b: u8) -> bool
 }
 
 // Whether a word is that one.
+// Stays: it is public, and says its answer by `same`, as the definitions of `calls` and `treetext` do; `==` stands in it.
 #[tactic(auto, using(crate::proofs::Sames::same_bytes))]
 pub fn is(word: &[u8], name: &[u8]) -> bool
     ensures { result ≡ same word.now name.now }

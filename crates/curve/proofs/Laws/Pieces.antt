@@ -1,7 +1,7 @@
 -- One piece: the earliest tick at which it stands at an amount, and which of two pieces is lower.
 -- Assumes nothing.
 use Prim.Native.Nat.{ℕ, ◌+◌, ◌-◌, ◌*◌, ◌≤◌, ◌<◌, max}
-use mathlib.Core.Path.{◌≡◌, refl}
+use mathlib.Core.Path.{◌≡◌, refl, subst}
 use native.Mathlib.Nat.{le_trans}
 use native.Mathlib.Omega.{arith}
 use borrow.Author.Tests.{le-leb, lt-leb}
@@ -13,7 +13,7 @@ use Rattle.curve.specs.declared.Curve.{Curve}
 use Rattle.curve.specs.declared.Curve.TheVariants.{Straight, FrontLoaded, Delayed, None}
 use Rattle.curve.specs.declared.Piece.{Piece}
 use Rattle.curve.specs.declared.Kept.{Kept}
-use Rattle.curve.proofs.Laws.Answers.{least_both}
+use Rattle.curve.proofs.Laws.Answers.{least_iff, least_both}
 use Rattle.curve.proofs.Laws.Amount.{amount_mono, rising_reaches}
 
 -- an earliest tick is at most 2^20 past the parts
@@ -52,6 +52,10 @@ arrival_least S p bytes {e} h =
 pub both_least : (S : Curve) (k : Kept) (bytes : ℕ) {a b : ℕ} → Least (Stands S k.steep bytes) a → Least (Stands S k.flat bytes) b → Least (BothStand S k bytes) (max a b)
 both_least S k bytes =
     least_both (stands_on S k.steep bytes) (stands_on S k.flat bytes) (λ t s f. record { steep = s; flat = f }) (λ t r. r.steep) (λ t r. r.flat)
+
+pub one_least : (S : Curve) (k : Kept) (bytes : ℕ) {a : ℕ} → k.steep ≡ k.flat → Least (Stands S k.steep bytes) a → Least (BothStand S k bytes) a
+one_least S k bytes e =
+    least_iff (λ t s. record { steep = s; flat = subst (λ (p : Piece). Stands S p bytes t) e s }) (λ t r. r.steep)
 
 -- the code's comparison of two pieces is the definition's
 pub lower_new : (m : ℕ) (old new : Piece) → in_parts (new.sent - old.sent) ≤ m * (new.start - old.start) → new ≡ lower_of m old new
