@@ -211,7 +211,7 @@ impl<'a> Printer<'a> {
         }
     }
 
-    // The text of a tree. No more classes are printed than a tree has.
+    // The text of a tree, with no more classes than a tree can have.
     pub(crate) fn tree(&mut self, tree: Tree)
         requires { HasRoom self.old tree_room }
         ensures { Prints self.old (tree_text tree) self.new }
