@@ -57,6 +57,11 @@ module _ (h : History) (law : Lawful h) (f g : Finding) (x y : History) where
   replayed_one (FoundEmpty stamp) p q = departure_one stamp empty_finding p q
   replayed_one Malformed p q = (p.0 ∙ sym q.0, p.1 ∙ sym q.1)
 
+-- a finding that is another than the right one
+pub not_holds : (f : Finding) → (f ≡ no_flaw → ⊥) → holds f ≡ false
+not_holds (Ok _) n = absurd (n refl)
+not_holds (Err flaw) n = refl
+
 abbrev pub is_accepted : Judgement → Bool
 is_accepted (Ok _) = true
 is_accepted (Err rejection) = false
