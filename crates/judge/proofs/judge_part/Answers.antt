@@ -10,11 +10,8 @@ use Rattle.judge.specs.declared.Rejection.TheVariants.{Malformed}
 use Rattle.judge.specs.Judging.{judgement_at}
 use Rattle.judge.specs.Promises.{PartRight}
 use Rattle.judge.proofs.Replaying.{not_named, named_wrong}
-use Rattle.judge.proofs.Judging.{Onward, onward_first, onward_next, onward_wrong, onward_short, onward_ended}
+use Rattle.judge.proofs.Judging.{Onward, onward_next, onward_wrong, onward_short, onward_ended}
 use Rattle.judge.proofs.judge_part.Goals as goal
-
-pub loop-record-init : goal.loop-record-init
-loop-record-init c = (c.requires, λ h law shows. onward_first law shows)
 
 pub returns-in_err-name : goal.returns-in_err-name
 returns-in_err-name c =
