@@ -12,14 +12,21 @@ use Rattle.records.specs.declared.Record.{Record}
 use Rattle.records.specs.declared.Record.TheVariants as record_of
 use Rattle.records.specs.Records.{record_of}
 use Rattle.judge.specs.Kinds.{Finding, no_flaw, Judgement, accepted}
+use Rattle.judge.specs.declared.Flaw.{Flaw}
 use Rattle.judge.specs.declared.Flaw.TheVariants.{Malformed, Refused, Another}
+use Rattle.tree.specs.declared.Fault.{Fault}
+use Rattle.judge.specs.declared.Rejection.{Rejection}
 use Rattle.judge.specs.declared.Rejection.TheVariants.{TreeRefused, AnotherChoice}
 use Rattle.judge.specs.declared.Rejection.TheVariants as rejection
+
+-- a record that our rules refuse is "refused (with the number)"
+abbrev pub refused_by : Refusal → Flaw
+refused_by why = Refused why
 
 -- "every arrival is accepted", or the record is "refused (with the number)"
 abbrev pub arrival_finding : Arrival → Finding
 arrival_finding (Ok number) = no_flaw
-arrival_finding (Err why) = Err (Refused why)
+arrival_finding (Err why) = Err (refused_by why)
 
 -- "every departure .. is the one our rules give, class and length both", or the record is "another choice"
 abbrev pub same_or : Bool → Option Packet → Finding
@@ -33,13 +40,13 @@ is_that class length packet = eqb packet.class class && eqb packet.length length
 abbrev pub departure_finding : (class length : ℕ) → Departure → Finding
 departure_finding class length (Ok (Some packet)) = same_or (is_that class length packet) (Some packet)
 departure_finding class length (Ok None) = Err (Another None)
-departure_finding class length (Err why) = Err (Refused why)
+departure_finding class length (Err why) = Err (refused_by why)
 
 -- "or empty answer is the one our rules give"
 abbrev pub empty_finding : Departure → Finding
 empty_finding (Ok (Some packet)) = Err (Another (Some packet))
 empty_finding (Ok None) = no_flaw
-empty_finding (Err why) = Err (Refused why)
+empty_finding (Err why) = Err (refused_by why)
 
 -- a record replayed after the history h: the answer that document 01 gives, what the record is found to be by it, and the history then
 pub record ArrivalReplayed (h : History) (stamp class bytes : ℕ) (finding : Finding) (next : History) : Type 0 where
@@ -83,6 +90,10 @@ pub data Judges : History → (k : ℕ) → (log : List ℕ) → Judgement → H
       → RecordReplayed h (record_of kind stamp class bytes) finding next → holds finding ≡ false → Judges h k (kind ∷ stamp ∷ class ∷ bytes ∷ log) (judgement_at k finding) next
   -- "A list whose length isn't a multiple of four is malformed at its last, short record."
   short : {h : History} {k : ℕ} {log : List ℕ} → 0 < length log → length log < 4 → Judges h k log (Err (rejection.Malformed k)) h
+
+-- "answered with that refusal": of a tree, with the class at fault
+abbrev pub tree_refused : Fault → Rejection
+tree_refused fault = TreeRefused fault.why fault.class
 
 -- "replayed from a given tree and first stamp"
 pub data LogJudged (tree : Tree) (first : ℕ) (log : List ℕ) : Judgement → Type 0 where

@@ -7,7 +7,7 @@ ghost use Rattle.std.specs.Prelude.{◌≡◌, ◌+◌, ◌≤◌, length, get_o
 ghost use Rattle.records.specs.Records.{record_of};
 ghost use Rattle.state.specs.State.{Reached};
 ghost use Rattle.state.specs.Heads.{EveryHistory};
-ghost use Rattle.judge.specs.Judging.{arrival_finding, departure_finding, empty_finding, judgement_at, LogJudged};
+ghost use Rattle.judge.specs.Judging.{arrival_finding, departure_finding, empty_finding, judgement_at, refused_by, tree_refused, LogJudged};
 ghost use Rattle.judge.specs.Promises.{ReplayRight, PartRight};
 
 use records::Record;
@@ -32,15 +32,30 @@ pub enum Rejection {
     AnotherChoice { record: u64, ours: Option<Packet> },
 }
 
+impl From<Refusal> for Flaw {
+    ghost from_gives = { λ why flaw. flaw ≡ refused_by why };
+
+    fn from(why: Refusal) -> Flaw {
+        Flaw::Refused { why }
+    }
+}
+
+impl From<Fault> for Rejection {
+    ghost from_gives = { λ fault rejection. rejection ≡ tree_refused fault };
+
+    fn from(fault: Fault) -> Rejection {
+        let Fault { why, class } = fault;
+        Rejection::TreeRefused { why, class }
+    }
+}
+
 // Judges a whole log, replayed from the tree with that first stamp.
 pub fn judge(tree: Tree, first: u32, log: &[u32]) -> Result<(), Rejection>
     ensures { LogJudged tree first log.now result }
 {
     let mut words = [0u64; CELLS];
     let mut lengths = [0u16; PLACES];
-    if let Err(Fault { why, class }) = sched::start(tree, first, &mut words, &mut lengths) {
-        return Err(Rejection::TreeRefused { why, class });
-    }
+    sched::start(tree, first, &mut words, &mut lengths)?;
     judge_part(&mut words, &mut lengths, log)
 }
 
@@ -96,9 +111,7 @@ pub fn replay(words: &mut Words, lengths: &mut Lengths, said: Record) -> Result<
 fn of_arrival(answer: Result<u64, Refusal>) -> Result<(), Flaw>
     ensures { result ≡ arrival_finding answer }
 {
-    if let Err(why) = answer {
-        return Err(Flaw::Refused { why });
-    }
+    answer?;
     Ok(())
 }
 
@@ -110,10 +123,7 @@ fn of_departure(
 ) -> Result<(), Flaw>
     ensures { result ≡ departure_finding class «length» answer }
 {
-    let ours = match answer {
-        Ok(ours) => ours,
-        Err(why) => return Err(Flaw::Refused { why }),
-    };
+    let ours = answer?;
     let Some(packet) = ours else {
         return Err(Flaw::Another { ours });
     };
@@ -127,10 +137,9 @@ fn of_departure(
 fn of_empty(answer: Result<Option<Packet>, Refusal>) -> Result<(), Flaw>
     ensures { result ≡ empty_finding answer }
 {
-    match answer {
-        Ok(None) => Ok(()),
-        Ok(ours) => Err(Flaw::Another { ours }),
-        Err(why) => Err(Flaw::Refused { why }),
+    match answer? {
+        None => Ok(()),
+        ours => Err(Flaw::Another { ours }),
     }
 }
 

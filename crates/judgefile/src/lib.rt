@@ -7,7 +7,6 @@ ghost use Rattle.judgefile.specs.Promises.{LogJudgedByFile, judgement_number, ju
 
 use judge::Rejection;
 use rules::Packet;
-use tree::Fault;
 
 // Judges the log over the tree of the file, from that first stamp. The answer is the number of the judgement, and `out` says
 // more of it.
@@ -23,10 +22,7 @@ pub fn judge_file(file: &[u8], first: u32, log: &[u32], out: &mut [u64; 4]) -> u
 fn judged(file: &[u8], first: u32, log: &[u32]) -> Result<(), Rejection>
     ensures { LogJudgedByFile file.now first log.now result }
 {
-    let tree = match file::reader::read(file) {
-        Ok(tree) => tree,
-        Err(Fault { why, class }) => return Err(Rejection::TreeRefused { why, class }),
-    };
+    let tree = file::reader::read(file)?;
     judge::judge(tree, first, log)
 }
 
