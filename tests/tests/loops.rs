@@ -13,7 +13,7 @@ const CALLS: [&str; 7] = ["start", "arrive", "depart", "clock", "waiting", "virt
 struct Function {
     place: String,
     loops: bool,
-    /// A chain of an iterator goes over its items, with no loop in the text.
+    /// A chain of an iterator goes over its items, or `from_fn` over the places of an array, with no loop in the text.
     chains: bool,
     names: BTreeSet<String>,
 }
@@ -53,7 +53,7 @@ fn functions(place: &str, source: &str, into: &mut BTreeMap<String, Vec<Function
         let body = &lines[body..end];
         let names: BTreeSet<String> = body.iter().flat_map(|line| named(line)).collect();
         let loops = body.iter().any(|line| ["while ", "for ", "loop "].iter().any(|word| line.trim_start().starts_with(word)));
-        let chains = body.iter().any(|line| [".iter()", ".into_iter()", ".chunks"].iter().any(|word| line.contains(word)));
+        let chains = body.iter().any(|line| [".iter()", ".into_iter()", ".chunks", "from_fn("].iter().any(|word| line.contains(word)));
         into.entry(name.clone()).or_default().push(Function { place: format!("{place}::{name}"), loops, chains, names });
         at = end + 1;
     }

@@ -21,6 +21,7 @@ fn leaf_curve(leaf: u8, leaves: u8) -> Curve {
 // beneath each of those, and the leaves in turn beneath the sixteen.
 pub const WIDE: u8 = 20;
 
+// Stays: `above` is how many classes stand above the leaves, by which all are numbered; 20 of them branch, and fewer are a chain.
 // The parent of a class above the leaves. But in the wide tree each is the parent of the next.
 fn parent_above(number: u8, above: u8) -> u8 {
     if number == 0 {

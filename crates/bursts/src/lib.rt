@@ -14,7 +14,7 @@ pub const KEPT: usize = 2052;
 pub const MOST_SEEN: usize = 4294967296;
 
 // What is kept of a file: its first bytes.
-// Stays: in C the kept bytes and what was seen are lent as two arrays, so that they are no struct here.
+// Stays: docs/PROMISES.md names the functions with both, and hosts in C lend the kept bytes and what was seen apart.
 pub type Kept = [u8; KEPT];
 
 // What was seen of it: how many bytes, a count that stops at 2^32, and whether its end was told.

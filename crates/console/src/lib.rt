@@ -120,6 +120,7 @@ pub fn arguments(rt: &impl Env) -> usize {
     usize::MAX
 }
 
+// Stays: here and below a buffer is lent, and how much of it is filled is answered, as std's `Read::read` does (no heap); docs/PROMISES.md has the clauses.
 // Puts the argument at that place at the start of the buffer.
 pub fn argument(rt: &impl Env, at: usize, buffer: &mut [u8]) -> io::Result<usize>
     ensures { IfOk result (λ n. Within n buffer.new) }

@@ -67,7 +67,7 @@ impl TryFrom<Code> for Curve {
 }
 
 // The curve of a kind with its numbers; none where the kind is unknown.
-// Stays: it answers for an unknown kind too, as hosts in C ask it (`Decodes`), where `try_from` names an error.
+// Stays: it could not fail, and answers for an unknown kind too (`Decodes`); `try_from` stands beside it and names an error.
 pub fn decode(kind: u32, first: u32, second: u32, third: u32) -> Curve
     ensures { Decodes kind first second third result }
 {

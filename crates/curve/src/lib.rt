@@ -20,7 +20,7 @@ pub(crate) const BYTE: u64 = WHOLE as u64;
 pub const LATEST_BEND: u32 = 1 << 20;
 
 // A real-time curve with its numbers: rates in parts, bends in ticks.
-// Stays: `None` is a kind of the file's table, and each definition of a curve (`amount`, `RightCurve`, `code_of`) has a case for it.
+// Stays: document 01 asks for it, under 'Which form each place takes': a curve enum of none, straight, front-loaded, delayed.
 #[derive(Clone, Copy, PartialEq, Eq)]
 pub enum Curve {
     None,

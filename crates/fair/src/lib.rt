@@ -22,7 +22,7 @@ use state::table::{
 
 // Of a class's children: whether one is active, without the one that turns active, with the smallest
 // and the largest of their virtual times; and the largest virtual time of all children.
-// Stays: as an `Option` of the two it was proved too, and took up to 9 percent more instructions (2,224 for 2,040 an arrival and departure, 63 leaves emptied).
+// Stays: as an `Option` of the two it was proved too, and missed the bar that no row of `bench/run count` takes more than before: up to 9 percent (2,224 for 2,040, 63 leaves emptied).
 #[derive(Clone, Copy, PartialEq, Eq)]
 pub struct Spread {
     pub any: bool,
@@ -71,7 +71,7 @@ fn spread_of(words: &Words, parent: usize, class: usize) -> Spread
         last: 0,
     };
     let mut child = get(words, parent, CHILD) as usize;
-    // Stays: the children are a list by numbers in the array that the host lends (no heap), and an iterator over it needs this loop's invariant as its own.
+    // Stays: an iterator over the children, a list by numbers in the lent array, needs this loop's invariant as its own, and the loop is the shorter.
     while child != 0 {
         let other = is_other(words, child, class);
         spread = spread.with(get(words, child, VIRTUAL), other);

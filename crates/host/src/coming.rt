@@ -8,7 +8,7 @@ use bursts::{Kept, Seen, Taken};
 use state::table::{Lengths, Words};
 
 // What the two numbers say was seen.
-// Stays: the numbers are the C interface, and what was seen is a type of `bursts`, so that no `From` can stand here.
+// Stays: the numbers are the C interface; `Seen` is of `bursts`, which knows no numbers of C, so that no `From` stands here or there.
 fn seen_said(numbers: &[u64; 2]) -> Seen
     ensures { result ≡ seen_said numbers.now }
 {

@@ -22,7 +22,7 @@ pub enum Held {
     Class { kind: u32, stamp: u32, class: u32 },
 }
 
-// Stays: what is wrong does not end the reading where it is found (`judge_text` keeps the scan's line and the records so far), so it is a part of the progress and no error.
+// Stays: a text is right, wrong in a record, or wrong in a word, and a `Result` would nest the three; `judgement` is public and answers for any finding (`standing_as`), so no narrower type stands here.
 // How a text stands: right so far, a wrong record after the right ones, or a word that is no number.
 #[derive(Clone, Copy, PartialEq, Eq)]
 pub enum Standing {

@@ -17,6 +17,7 @@ use reason::{NUMBERS, Reason};
 // Room for the lines of as many leaves as a tree has classes at most: 64 of 144 bytes.
 pub const TEXT: usize = 9216;
 
+// Stays: docs/PROMISES.md names it, with the sheet and the number of its lines.
 // The first lines of a sheet, so many, at the front of the buffer. The answer is where they end.
 pub fn sheet(sheet: &[u64], lines: usize, out: &mut [u8; TEXT]) -> usize
     requires { (numbers * lines ≤ length sheet.now) × (lines ≤ most_classes) }

@@ -16,7 +16,7 @@ pub const DEPARTURE: u32 = 2;
 
 pub const FOUND_EMPTY: u32 = 3;
 
-// Stays: a malformed record is one of the request's kinds of record (`record_of`, `RecordReplayed`), judged in its turn like the others.
+// Stays: malformed is one of the things that a record is judged as (`RecordReplayed`): `judge::replay` takes it and answers, and a `Result` would only move its arm there.
 // What four numbers say.
 #[derive(Clone, Copy, PartialEq, Eq)]
 pub enum Record {
@@ -35,6 +35,7 @@ pub struct Numbers {
     pub length: u32,
 }
 
+// Stays: docs/PROMISES.md names it with the four numbers.
 pub fn record_of(kind: u32, stamp: u32, class: u32, length: u32) -> Record
     ensures { result ≡ record_of kind stamp class length }
 {

@@ -25,7 +25,7 @@ pub enum Form {
 }
 
 // How far a replay has come.
-// Stays: `after_reply` and `Replayed` state each of these, and a line that is wrong ends a replay that was started and one that was not.
+// Stays: two flags with no value beside them: a line that is wrong ends a replay that was started and one that was not (`after_reply`, `Replayed`).
 #[derive(Clone, Copy)]
 pub struct Progress {
     // the lines so far
@@ -101,6 +101,7 @@ fn first(
 {
     match call {
         Ok(Some(Call::Start { stamp })) => Ok(Some(start(tree, words, lengths, stamp))),
+        // Stays: no `From` of a `LineError`: it is of `calls`, and `Wrong` of `print`.
         Ok(Some(Call::Arrive { .. } | Call::Depart { .. })) => Err(Wrong::StartFirst),
         Ok(None) => Ok(None),
         Err(LineError::TooLarge) => Err(Wrong::TooLarge),

@@ -17,7 +17,7 @@ pub struct Sender {
     pub rule: Rule,
 }
 
-// Stays: `LARGEST` is what the table itself has where there is no time, so that one comparison asks for both; an `Option` of the two was tried in `fair` (`Spread`), and cost up to 9 percent.
+// Stays: as an enum of none or a leaf this walk took up to 10 percent more instructions (bench/README.md: 922 for 842, wide 32 bursty); no deadline is `LARGEST`.
 // The real-time rule: of the leaves that are eligible now the one of smallest deadline, then of lowest
 // number.
 fn soonest(words: &Words, tick: u64) -> Option<usize>
@@ -39,7 +39,7 @@ fn soonest(words: &Words, tick: u64) -> Option<usize>
     if least == LARGEST { None } else { Some(best) }
 }
 
-// Stays: the children are a list by numbers in the array that the host lends (no heap), and an iterator over it needs this loop's invariant as its own.
+// Stays: an iterator over the children, a list by numbers in the lent array, needs this loop's invariant as its own, and the loop is the shorter.
 // The active child of smallest virtual time, then of lowest number.
 fn lightest(words: &Words, class: usize) -> usize
     requires { SomeCalls (λ tree cs. Stepping words.now tree cs class) }

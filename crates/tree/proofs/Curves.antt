@@ -2,6 +2,10 @@
 -- Assumes nothing.
 use Prim.Native.Nat.{ℕ, zero, suc, ◌+◌, ◌≤◌, ◌<◌}
 use mathlib.Core.Path.{◌≡◌, refl, sym, ap, ◌∙◌}
+use mathlib.Core.List.{List, map}
+use Rattle.std.specs.List.{range_with_len}
+use Rattle.std.proofs.lemmas.List.FromFn.{fill_by_all}
+use Rattle.curve.specs.declared.Curve.{Curve}
 use native.Mathlib.Nat.{not-suc-le-zero, le_of_suc-le-suc, add-zero, zero-add}
 use native.Mathlib.Omega.{arith}
 use lib.ListN.{length, get_or}
@@ -37,3 +41,7 @@ module _ (t : Tree) where
   pub curves_at : (i : ℕ) → i < most_classes → get_or (curves_of t) i None ≡ curve_below t i
   unfolding curves_of
   curves_at i l = at_from 0 most_classes i l ∙ ap (curve_below t) (zero-add i)
+
+  -- as an array that a closure makes
+  pub curves_are : (curves : List Curve) → curves ≡ map (curve_below t) (range_with_len 0 most_classes) → curves ≡ curves_of t
+  curves_are curves e = e ∙ sym (fill_by_all (curve_below t) (curves_of t) most_classes None curves_length curves_at)

@@ -3,6 +3,7 @@ pub mod Children
 pub mod Classes
 pub mod Curves
 pub mod Depths
+pub mod Made
 pub mod Numbers
 pub mod One
 pub mod Right

@@ -8,6 +8,7 @@ ghost use Rattle.tree.specs.Trees.{curve_below, curves_of, depth, has_child};
 use crate::{CLASSES, Class, DEEPEST, Tree, class_at};
 use curve::amounts::right;
 use curve::{Curve, WHOLE};
+use std::array;
 
 fn right_root(class: Class) -> bool
     ensures { Exactly result (RightRoot class) }
@@ -129,10 +130,10 @@ fn curve_below(tree: Tree, class: u32) -> Curve
 pub(crate) fn curves_of(tree: Tree) -> [Curve; CLASSES]
     ensures { result ≡ curves_of tree }
 {
-    let mut curves = [Curve::None; CLASSES];
-    // Stays: `iter_mut` was tried, and of an enum written through a reference the check doesn't know the value.
-    for i in 0..CLASSES {
-        curves[i] = curve_below(tree, i as u32);
-    }
-    curves
+    array::from_fn(
+        |i|
+            requires { i < CLASSES }
+            ensures { result ≡ curve_below tree i }
+        { curve_below(tree, i as u32) },
+    )
 }

@@ -67,7 +67,7 @@ pub struct Fault {
 }
 
 // A refusal's number in document 01's table.
-// Stays: the numbers are what files, texts and hosts in C know refusals by, and `number_of` gives each by its name; a wrong one has to be a program that the proof refuses.
+// Stays: hosts in C know refusals by number (`hfsc.h`, `number_of`); a number beside each variant would be this table within the type, and no shorter.
 pub fn number(refusal: Refusal) -> u32
     ensures { result ≡ number_of refusal }
 {

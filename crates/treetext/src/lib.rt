@@ -19,6 +19,7 @@ pub enum Entry {
 }
 
 // Why a line says nothing of a tree: a number is past 32 bits, or the form is wrong.
+// Stays: no `LineError` of `calls`: each has the word for what its line is not, as `Wrong` of `print` has both.
 #[derive(Clone, Copy, PartialEq, Eq)]
 pub enum EntryError {
     TooLarge,

@@ -4,7 +4,8 @@ use mathlib.Core.Path.{◌≡◌, refl, ◌∙◌, ap}
 use Prim.Native.Nat.{◌+◌, ◌*◌}
 use Rattle.tree.specs.Trees.{no_class}
 use Rattle.host.specs.Words.{class_from}
-use Rattle.host.proofs.Saying.{class_said, made, tree_is}
+use Rattle.tree.proofs.Made.{made}
+use Rattle.host.proofs.Saying.{class_said, tree_is}
 use Rattle.host.proofs.words.tree_of.Goals as goal
 
 pub returns : goal.returns
