@@ -7,7 +7,7 @@ use print::Answer;
 use std::io;
 use std::io::Read;
 use std::rt::{Env, Files};
-use tree::{Fault, Tree};
+use tree::Tree;
 
 // The tree of the class-tree file that the argument at that place names. Where there is none, since the file can't be read or is
 // refused, that is said.
@@ -16,9 +16,7 @@ pub fn tree_argument(rt: &(impl Env + Files + Print + Eprint), at: usize) -> Res
     let n = crate::name(rt, at, b"TREE", &mut name)?;
     match read_tree(rt, &name[..n]).answer {
         Some(Ok(tree)) => Ok(tree),
-        Some(Err(Fault { why, class })) => {
-            Err(crate::refuse(rt, Answer::TreeRefused { why, class }))
-        }
+        Some(Err(fault)) => Err(crate::refuse(rt, Answer::from(fault))),
         None => Err(Stop::Failed),
     }
 }

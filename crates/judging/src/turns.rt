@@ -6,7 +6,7 @@ use judgetext::Progress;
 use print::Answer;
 use state::table::{CELLS, Lengths, PLACES, Words};
 use std::io::Read;
-use tree::{Fault, Tree};
+use tree::Tree;
 
 // Judges the log of the open file, replayed from the tree with that first stamp: how far it was judged. That the tree is refused, or
 // the log can't be read, is said.
@@ -19,8 +19,8 @@ pub fn judge(
 ) -> Result<Progress, Stop> {
     let mut words = [0u64; CELLS];
     let mut lengths = [0u16; PLACES];
-    if let Err(Fault { why, class }) = sched::start(tree, first, &mut words, &mut lengths) {
-        return Err(console::refuse(rt, Answer::TreeRefused { why, class }));
+    if let Err(fault) = sched::start(tree, first, &mut words, &mut lengths) {
+        return Err(console::refuse(rt, Answer::from(fault)));
     }
     turns(rt, file, name, &mut words, &mut lengths)
 }

@@ -50,8 +50,6 @@ fn tree_file(rt: &(impl Env + Files + Print + Eprint), tree: Tree) -> Result<(),
     let mut bytes = [0u8; 4096];
     match file::writer::write(tree, &mut bytes) {
         Ok(total) => saving::save(rt, &bytes[..total as usize]),
-        Err(tree::Fault { why, class }) => {
-            Err(console::refuse(rt, Answer::TreeRefused { why, class }))
-        }
+        Err(fault) => Err(console::refuse(rt, Answer::from(fault))),
     }
 }

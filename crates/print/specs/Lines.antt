@@ -6,6 +6,7 @@ use Rattle.wording.specs.Letters.{colon, space, line_feed}
 use Rattle.wording.specs.Decimal.{decimal}
 use Rattle.curve.specs.declared.Curve.{Curve}
 use Rattle.curve.specs.declared.Curve.TheVariants.{None, Straight, FrontLoaded, Delayed}
+use Rattle.tree.specs.declared.Fault.{Fault}
 use Rattle.tree.specs.declared.Tree.{Tree}
 use Rattle.tree.specs.Verdicts.{Verdict}
 use Rattle.tree.specs.Numbers.{number_of}
@@ -91,10 +92,14 @@ class_lines t i (suc n) = line_of (ClassOf i (class_at t i)) ++ class_lines t (s
 unfoldable pub tree_text : Tree → List ℕ
 tree_text t = line_of TreeHead ++ class_lines t 0 (min t.count most_classes)
 
+-- the answer that a tree's fault is printed as
+abbrev pub fault_answer : Fault → Answer
+fault_answer fault = TreeRefused fault.why fault.class
+
 -- the answer that each call's answer is printed as: a refused start names a class, a refused arrival or departure none
 abbrev pub start_answer : Verdict → ℕ → Answer
 start_answer (Ok _) count = Started count
-start_answer (Err fault) count = TreeRefused fault.why fault.class
+start_answer (Err fault) count = fault_answer fault
 
 abbrev pub arrival_answer : Arrival → Answer
 arrival_answer (Ok number) = Accepted number

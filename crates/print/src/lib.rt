@@ -3,7 +3,7 @@
 #![tactic(auto)]
 
 ghost use Rattle.std.specs.Prelude.{◌≡◌, ◌≤◌};
-ghost use Rattle.print.specs.Lines.{start_answer, arrival_answer, departure_answer};
+ghost use Rattle.print.specs.Lines.{fault_answer, start_answer, arrival_answer, departure_answer};
 ghost use Rattle.print.specs.Promises.{PrintsLine, PrintsTree, PrintsNumber, line_room};
 
 use put::Printer;
@@ -46,6 +46,15 @@ pub enum Answer {
     Faulty { number: u64, wrong: Wrong },
 }
 
+impl From<Fault> for Answer {
+    ghost from_gives = { λ fault answer. answer ≡ fault_answer fault };
+
+    fn from(fault: Fault) -> Answer {
+        let Fault { why, class } = fault;
+        Answer::TreeRefused { why, class }
+    }
+}
+
 // The line of an answer, at the front of the buffer. The answer is where it ends.
 pub fn line(answer: Answer, out: &mut [u8; LINE]) -> usize
     ensures printed { PrintsLine answer out.old out.new result }
@@ -80,7 +89,7 @@ pub fn start(verdict: Result<(), Fault>, count: u32) -> Answer
 {
     match verdict {
         Ok(()) => Answer::Started { count },
-        Err(Fault { why, class }) => Answer::TreeRefused { why, class },
+        Err(fault) => Answer::from(fault),
     }
 }
 

@@ -25,7 +25,7 @@ fn print_answer(rt: &(impl Print + Eprint), answer: Option<Result<Tree, Fault>>)
     match answer {
         None => console::println(rt, "nothing yet"),
         Some(Ok(_)) => console::println(rt, "right"),
-        Some(Err(Fault { why, class })) => console::say(rt, Answer::TreeRefused { why, class }),
+        Some(Err(fault)) => console::say(rt, Answer::from(fault)),
     }
 }
 
@@ -45,7 +45,7 @@ fn print_file(rt: &(impl Files + Print + Eprint), name: &[u8]) -> io::Result<()>
             console::say_tree(rt, tree)?;
             print_beyond(rt, tree)?;
         }
-        Err(Fault { why, class }) => console::say(rt, Answer::TreeRefused { why, class })?,
+        Err(fault) => console::say(rt, Answer::from(fault))?,
     }
     let answer = cut::read(&bytes[..n]).answer;
     print_answer(rt, answer)?;

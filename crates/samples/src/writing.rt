@@ -2,7 +2,7 @@
 // first, so that it shows which bytes were written.
 use print::Answer;
 use std::io;
-use tree::{Fault, Tree};
+use tree::Tree;
 
 const FILL: u8 = 170;
 
@@ -58,8 +58,8 @@ fn print_writing(
                 format_args!("written {total}, {order}, {beyond} beyond"),
             )
         }
-        Err(Fault { why, class }) => {
-            console::say(rt, Answer::TreeRefused { why, class })?;
+        Err(fault) => {
+            console::say(rt, Answer::from(fault))?;
             let some = if is_filled(&out, 0) { "none" } else { "some" };
             console::println(rt, format_args!("{some} written"))
         }
