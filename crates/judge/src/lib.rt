@@ -23,7 +23,7 @@ pub enum Flaw {
     Another { ours: Option<Packet> },
 }
 
-// Stays: the answers that `hfsc.h`, docs/FORMS.md and the request have one by one; with a `Flaw` in a variant each that reads a rejection would take it apart twice.
+// Stays: the answers that `hfsc.h`, docs/FORMS.md and the request have one by one.
 // Why a log is not accepted: the refusal of its tree, or its first wrong record, counted from 0.
 #[derive(Clone, Copy, PartialEq, Eq)]
 pub enum Rejection {

@@ -101,9 +101,9 @@ fn first(
 {
     match call {
         Ok(Some(Call::Start { stamp })) => Ok(Some(start(tree, words, lengths, stamp))),
-        // Stays: no `From` of a `LineError`: it is of `calls`, and `Wrong` of `print`.
         Ok(Some(Call::Arrive { .. } | Call::Depart { .. })) => Err(Wrong::StartFirst),
         Ok(None) => Ok(None),
+        // Stays: no `From` of a `LineError`: it is of `calls`, and `Wrong` of `print`.
         Err(LineError::TooLarge) => Err(Wrong::TooLarge),
         Err(LineError::NotACall) => Err(Wrong::NotACall),
     }

@@ -67,7 +67,7 @@ pub struct Fault {
 }
 
 // A refusal's number in document 01's table.
-// Stays: hosts in C know refusals by number (`hfsc.h`, `number_of`); a number beside each variant would be this table within the type, and no shorter.
+// Stays: hosts in C know refusals by number (`hfsc.h`, `number_of`); with numbers beside the variants the must-fail edit `number_of_another` would be no program, since no two variants have one number.
 pub fn number(refusal: Refusal) -> u32
     ensures { result ≡ number_of refusal }
 {
