@@ -29,8 +29,7 @@ verdict_of (Err fault) = Err fault
 
 -- of a tree that is written as a file: the verdict, which is told as above, and the total bytes
 abbrev pub written_verdict : Written → Verdict
-written_verdict (Ok total) = all_right
-written_verdict (Err fault) = Err fault
+written_verdict = verdict_of
 
 abbrev pub written_total : Written → ℕ
 written_total (Ok total) = total
@@ -43,8 +42,7 @@ refusal_number (Err why) = number_of why
 
 -- of an arrival: the number of the refusal, and the packet's number within its leaf
 abbrev pub arrival_number : Arrival → ℕ
-arrival_number (Ok number) = 0
-arrival_number (Err why) = number_of why
+arrival_number = refusal_number
 
 abbrev pub packet_number : Arrival → ℕ
 packet_number (Ok number) = number
@@ -65,9 +63,7 @@ packet_numbers p = 1 ∷ p.class ∷ p.number ∷ p.length ∷ rule_number p.rul
 
 -- of a departure: the number of the refusal, and the packet that leaves, if one does
 abbrev pub departure_number : Departure → ℕ
-departure_number (Ok (Some packet)) = 0
-departure_number (Ok None) = 0
-departure_number (Err why) = number_of why
+departure_number = refusal_number
 
 abbrev pub no_packet : List ℕ
 no_packet = 0 ∷ 0 ∷ 0 ∷ 0 ∷ 0 ∷ 0 ∷ 0 ∷ 0 ∷ []
