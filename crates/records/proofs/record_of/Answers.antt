@@ -1,6 +1,6 @@
 -- `records::record_of` meets its contract: each arm is one of the definition's.
 -- Assumes nothing.
-use mathlib.Core.Path.{refl}
+use mathlib.Core.Path.{◌≡◌, refl}
 use borrow.Author.Tests.{eq-eqb, ne_eqb}
 use Rattle.records.specs.Records.{record_of}
 use Rattle.records.proofs.record_of.Goals as goal
@@ -15,7 +15,9 @@ returns-in-2-default-default c = rw c.in-2-default-default.is-0 refl
 
 pub returns-in-3-eq0-eq0 : goal.returns-in-3-eq0-eq0
 unfolding record_of
-returns-in-3-eq0-eq0 c = rw (c.in-3-eq0-eq0.is-0, c.in-3-eq0-eq0.is-1, c.in-3-eq0-eq0.is-2) refl
+returns-in-3-eq0-eq0 c =
+    let no_class : c.args.class ≡ 0 = c.in-3-eq0-eq0.is-1 in
+    rw (c.in-3-eq0-eq0.is-0, no_class, c.in-3-eq0-eq0.is-2) refl
 
 pub returns-in_default : goal.returns-in_default
 unfolding record_of
