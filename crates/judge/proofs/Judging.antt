@@ -11,6 +11,7 @@ use Rattle.rules.specs.Calls.{History}
 use Rattle.rules.specs.Lawful.{Lawful}
 use Rattle.tree.specs.declared.Tree.{Tree}
 use Rattle.tree.specs.declared.Refusal.{Refusal}
+use Rattle.tree.specs.declared.Fault.{Fault}
 use Rattle.tree.specs.Verdicts.{Verdict, all_right, refused as at_fault}
 use Rattle.rules.specs.Limits.{wheel}
 use Rattle.rules.specs.Answers.{Starts}
@@ -20,10 +21,10 @@ use Rattle.state.specs.State.{Shows}
 use Rattle.state.specs.Heads.{EveryHistory}
 use Rattle.records.specs.declared.Record.{Record}
 use Rattle.records.specs.Records.{record_of}
-use Rattle.std.specs.Prelude.{Err}
+use Rattle.std.specs.Prelude.{Ok, Err}
 use Rattle.judge.specs.Kinds.{Finding, no_flaw, Judgement, accepted}
 use Rattle.judge.specs.declared.Rejection.TheVariants.{TreeRefused, Malformed}
-use Rattle.judge.specs.Judging.{RecordReplayed, holds, judgement_at, Judges, ended, right, wrong, short, LogJudged, refused, replayed}
+use Rattle.judge.specs.Judging.{RecordReplayed, holds, judgement_at, Judges, ended, right, wrong, short, tree_refused, LogJudged, refused, replayed}
 use Rattle.judge.specs.Promises.{ReplayRight, PartRight}
 use Rattle.judge.proofs.Replaying.{replayed_lawful}
 
@@ -115,3 +116,11 @@ module _ {tree : Tree} {first : ℕ} {log m l : List ℕ} {answer : Verdict} (st
       let here = started.next in
       let judged = part here (starts_lawful tree first all_right here small starts) started.shows in
       replayed starts judged.judges
+
+  -- a start that is not right is told as its refusal
+  pub judged_unstarted : {verdict : Judgement} → ((u : Unit) → answer ≡ Ok u → ⊥) → ((fault : Fault) → answer ≡ Err fault → verdict ≡ Err (tree_refused fault)) → LogJudged tree first log verdict
+  judged_unstarted {verdict = v} n told = by answer refl
+    where
+      by : (a : Verdict) → answer ≡ a → LogJudged tree first log v
+      by (Ok u) e = absurd (n u e)
+      by (Err fault) e = rw (told fault e) (judged_refused e)

@@ -38,7 +38,7 @@ module _ {h next : History} (stamp k : ℕ) where
   departure_own : (answer : Departure) → Departs h stamp answer next → Judges h k (entry_numbers (departure_entry stamp answer)) accepted next
   unfolding record_of
   departure_own (Ok (Some packet)) p =
-      let same = sym (ap (λ (b : Bool). same_or b (Some packet)) (same_packet packet)) in
+      let same = sym (ap (λ (b : Bool). same_or b (Ok (Some packet))) (same_packet packet)) in
       let held : DepartureReplayed h stamp (departure_finding packet.class packet.length) no_flaw next = record { answer = Ok (Some packet); departs = p; finds = same } in
       right {after = next} {kind = departure_kind} {stamp = stamp} {class = packet.class} {bytes = packet.length} held ended
   departure_own (Ok None) p =

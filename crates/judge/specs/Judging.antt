@@ -1,7 +1,7 @@
 -- Request 4, "Judge the competitor's box from its log": a log replayed over document 01's definitions, record by record.
 -- Assumes nothing.
 use Rattle.rules.specs.Kinds.{Arrival, Departure}
-use Rattle.std.specs.Prelude.{ℕ, ◌+◌, ◌<◌, ◌≡◌, Bool, true, false, ◌&&◌, List, [], ◌∷◌, eqb, length, Option, Some, None, Ok, Err}
+use Rattle.std.specs.Prelude.{ℕ, ◌+◌, ◌<◌, ◌≡◌, Bool, true, false, ◌&&◌, List, [], ◌∷◌, eqb, length, Some, None, Ok, Err}
 use Rattle.tree.specs.declared.Tree.{Tree}
 use Rattle.tree.specs.declared.Refusal.{Refusal}
 use Rattle.tree.specs.Verdicts.{all_right, refused as at_fault}
@@ -29,7 +29,7 @@ arrival_finding (Ok number) = no_flaw
 arrival_finding (Err why) = Err (refused_by why)
 
 -- "every departure .. is the one our rules give, class and length both", or the record is "another choice"
-abbrev pub same_or : Bool → Option Packet → Finding
+abbrev pub same_or : Bool → Departure → Finding
 same_or true ours = no_flaw
 same_or false ours = Err (Another ours)
 
@@ -38,13 +38,13 @@ abbrev pub is_that : (class length : ℕ) → Packet → Bool
 is_that class length packet = eqb packet.class class && eqb packet.length length
 
 abbrev pub departure_finding : (class length : ℕ) → Departure → Finding
-departure_finding class length (Ok (Some packet)) = same_or (is_that class length packet) (Some packet)
-departure_finding class length (Ok None) = Err (Another None)
+departure_finding class length (Ok (Some packet)) = same_or (is_that class length packet) (Ok (Some packet))
+departure_finding class length (Ok None) = Err (Another (Ok None))
 departure_finding class length (Err why) = Err (refused_by why)
 
 -- "or empty answer is the one our rules give"
 abbrev pub empty_finding : Departure → Finding
-empty_finding (Ok (Some packet)) = Err (Another (Some packet))
+empty_finding (Ok (Some packet)) = Err (Another (Ok (Some packet)))
 empty_finding (Ok None) = no_flaw
 empty_finding (Err why) = Err (refused_by why)
 

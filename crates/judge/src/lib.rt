@@ -15,22 +15,37 @@ use rules::Packet;
 use state::table::{CELLS, Lengths, PLACES, Words};
 use tree::{Fault, Refusal, Tree};
 
-// What is wrong with a record. `ours` is what our rules send, if they send one, where the record has another.
+// What is wrong with a record. `ours` is what our rules answer, where the record has something else.
 #[derive(Clone, Copy, PartialEq, Eq)]
 pub enum Flaw {
     Malformed,
-    Refused { why: Refusal },
-    Another { ours: Option<Packet> },
+    Refused {
+        why: Refusal,
+    },
+    Another {
+        ours: Result<Option<Packet>, Refusal>,
+    },
 }
 
 // Stays: the answers that `hfsc.h`, docs/FORMS.md and the request have one by one.
 // Why a log is not accepted: the refusal of its tree, or its first wrong record, counted from 0.
 #[derive(Clone, Copy, PartialEq, Eq)]
 pub enum Rejection {
-    TreeRefused { why: Refusal, class: u32 },
-    Malformed { record: u64 },
-    Refused { record: u64, why: Refusal },
-    AnotherChoice { record: u64, ours: Option<Packet> },
+    TreeRefused {
+        why: Refusal,
+        class: u32,
+    },
+    Malformed {
+        record: u64,
+    },
+    Refused {
+        record: u64,
+        why: Refusal,
+    },
+    AnotherChoice {
+        record: u64,
+        ours: Result<Option<Packet>, Refusal>,
+    },
 }
 
 impl From<Refusal> for Flaw {
@@ -69,7 +84,10 @@ pub fn judge_part(words: &mut Words, lengths: &mut Lengths, log: &[u32]) -> Resu
     let records = log.len() / 4;
     for record in 0..records {
         let finding = replay(words, lengths, record_at(log, 4 * record));
-        name(record as u64, finding)?;
+        // Stays: the edit `accepts_everything` changes the finding that is named here, and a `?` has no such place.
+        if finding.is_err() {
+            return name(record as u64, finding);
+        }
     }
     if 4 * records < log.len() {
         return Err(Rejection::Malformed {
@@ -124,12 +142,11 @@ fn of_departure(
 ) -> Result<(), Flaw>
     ensures { result ≡ departure_finding class «length» answer }
 {
-    let ours = answer?;
-    let Some(packet) = ours else {
-        return Err(Flaw::Another { ours });
+    let Some(packet) = answer? else {
+        return Err(Flaw::Another { ours: answer });
     };
     if packet.class != class || packet.length != length {
-        return Err(Flaw::Another { ours });
+        return Err(Flaw::Another { ours: answer });
     }
     Ok(())
 }
@@ -140,7 +157,7 @@ fn of_empty(answer: Result<Option<Packet>, Refusal>) -> Result<(), Flaw>
 {
     match answer? {
         None => Ok(()),
-        ours => Err(Flaw::Another { ours }),
+        Some(_) => Err(Flaw::Another { ours: answer }),
     }
 }
 

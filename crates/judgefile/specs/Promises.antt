@@ -1,8 +1,8 @@
 -- A log judged over a class-tree file, and the judgement as numbers: what the call answers, and what it writes into lent memory, with 0 wherever there is
 -- nothing to say.
 -- Assumes nothing.
-use Rattle.rules.specs.declared.Packet.{Packet}
-use Rattle.std.specs.Prelude.{ℕ, ◌≡◌, List, [], ◌∷◌, Option, Some, None, Ok, Err}
+use Rattle.rules.specs.Kinds.{Departure}
+use Rattle.std.specs.Prelude.{ℕ, ◌≡◌, List, [], ◌∷◌, Some, None, Ok, Err}
 use Rattle.tree.specs.declared.Tree.{Tree}
 use Rattle.tree.specs.declared.Refusal.{Refusal}
 use Rattle.tree.specs.Verdicts.{all_right, refused}
@@ -26,9 +26,10 @@ judgement_number (Err (Refused k why)) = 3
 judgement_number (Err (AnotherChoice k ours)) = 4
 
 -- of another choice: the record, whether our rules send a packet, and its class and length
-abbrev pub ours_numbers : ℕ → Option Packet → List ℕ
-ours_numbers k (Some packet) = k ∷ 1 ∷ packet.class ∷ packet.length ∷ []
-ours_numbers k None = k ∷ 0 ∷ 0 ∷ 0 ∷ []
+abbrev pub ours_numbers : ℕ → Departure → List ℕ
+ours_numbers k (Ok (Some packet)) = k ∷ 1 ∷ packet.class ∷ packet.length ∷ []
+ours_numbers k (Ok None) = k ∷ 0 ∷ 0 ∷ 0 ∷ []
+ours_numbers k (Err why) = k ∷ 0 ∷ 0 ∷ 0 ∷ []
 
 -- what it writes: the record, "whether it was malformed, refused (with the number), or another choice"; of a refused tree the number and the class
 abbrev pub judgement_numbers : Judgement → List ℕ

@@ -7,6 +7,7 @@ ghost use Rattle.judgefile.specs.Promises.{LogJudgedByFile, judgement_number, ju
 
 use judge::Rejection;
 use rules::Packet;
+use tree::Refusal;
 
 // Judges the log over the tree of the file, from that first stamp. The answer is the number of the judgement, and `out` says
 // more of it.
@@ -19,6 +20,7 @@ pub fn judge_file(file: &[u8], first: u32, log: &[u32], out: &mut [u64; 4]) -> u
 }
 
 // A refused file is told as a refused tree.
+#[tactic(auto, using(crate::specs::Promises::unread, crate::specs::Promises::read))]
 fn judged(file: &[u8], first: u32, log: &[u32]) -> Result<(), Rejection>
     ensures { LogJudgedByFile file.now first log.now result }
 {
@@ -58,11 +60,11 @@ fn numbers(judgement: Result<(), Rejection>) -> [u64; 4]
 }
 
 // The record, and the packet that our rules send, if they send one.
-fn ours_numbers(record: u64, ours: Option<Packet>) -> [u64; 4]
+fn ours_numbers(record: u64, ours: Result<Option<Packet>, Refusal>) -> [u64; 4]
     ensures { result ≡ ours_numbers «record» ours }
 {
     match ours {
-        Some(packet) => [record, 1, packet.class as u64, packet.length as u64],
-        None => [record, 0, 0, 0],
+        Ok(Some(packet)) => [record, 1, packet.class as u64, packet.length as u64],
+        Ok(None) | Err(_) => [record, 0, 0, 0],
     }
 }

@@ -74,7 +74,7 @@ fn tell(rt: &(impl Print + Eprint), at: Progress) -> Result<(), Stop> {
         )),
         Err(Rejection::AnotherChoice { record, ours }) => {
             let _ = say(rt, LogLine::AnotherChoice { record });
-            let answer = print::departure(Ok(ours));
+            let answer = print::departure(ours);
             Err(refuse(rt, LogLine::Ours { answer }))
         }
     }
