@@ -66,6 +66,13 @@ impl TryFrom<Code> for Curve {
     }
 }
 
+// The kind and the numbers of a curve.
+pub fn encode(curve: Curve) -> Code
+    ensures { Encodes curve result }
+{
+    Code::from(curve)
+}
+
 // The curve of a kind with its numbers; none where the kind is unknown.
 // Stays: it could not fail, and answers for an unknown kind too (`Decodes`); `try_from` stands beside it and names an error.
 pub fn decode(kind: u32, first: u32, second: u32, third: u32) -> Curve

@@ -56,5 +56,10 @@ fn slopes_fit(curves: &[Curve; CURVES]) -> bool
 pub fn fits(curves: [Curve; CURVES]) -> bool
     ensures { TellsFit curves result }
 {
-    curves.iter().all(|curve| fits_at(&curves, curve.bend())) && slopes_fit(&curves)
+    for curve in &curves {
+        if !fits_at(&curves, curve.bend()) {
+            return false;
+        }
+    }
+    slopes_fit(&curves)
 }

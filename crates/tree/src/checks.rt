@@ -8,7 +8,6 @@ ghost use Rattle.tree.specs.Trees.{curve_below, curves_of, depth, has_child};
 use crate::{CLASSES, Class, DEEPEST, Tree, class_at};
 use curve::amounts::right;
 use curve::{Curve, WHOLE};
-use std::array;
 
 fn right_root(class: Class) -> bool
     ensures { Exactly result (RightRoot class) }
@@ -130,10 +129,9 @@ fn curve_below(tree: Tree, class: u32) -> Curve
 pub(crate) fn curves_of(tree: Tree) -> [Curve; CLASSES]
     ensures { result ≡ curves_of tree }
 {
-    array::from_fn(
-        |i|
-            requires { i < CLASSES }
-            ensures { result ≡ curve_below tree i }
-        { curve_below(tree, i as u32) },
-    )
+    let mut curves = [Curve::None; CLASSES];
+    for i in 0..CLASSES {
+        curves[i] = curve_below(tree, i as u32);
+    }
+    curves
 }

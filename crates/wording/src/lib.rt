@@ -64,6 +64,13 @@ pub fn narrow(value: u64) -> Result<u32, NumberError>
     u32::try_from(value).map_err(|_| NumberError::TooLarge)
 }
 
+// A byte as a number of 64 bits.
+pub fn wide(b: u8) -> u64
+    ensures { result ≡ b }
+{
+    u64::from(b)
+}
+
 // The line before its comment.
 pub fn uncomment(line: &[u8]) -> &[u8]
     ensures { result.now ≡ uncommented line.now }

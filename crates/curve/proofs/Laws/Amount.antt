@@ -1,6 +1,6 @@
 -- What every curve's amount obeys.
 -- Assumes nothing.
-use Prim.Native.Nat.{ℕ, ◌+◌, ◌-◌, ◌*◌, ◌/◌, ◌%◌, ◌≤◌, ◌<◌, min}
+use Prim.Native.Nat.{ℕ, ◌+◌, ◌-◌, ◌*◌, ◌/◌, ◌%◌, ◌≤◌, ◌<◌, ◌^◌, min}
 use mathlib.Core.Path.{◌≡◌, refl, ap}
 use native.Mathlib.Nat.{mul-le-mul_left, mul-le-mul_right, mul-le-mul, le_trans, add-le-add, le_of_eq, le_of_lt, le_dest, mul-add, mul-zero, div-add-mod'}
 use native.Mathlib.Omega.{arith}
@@ -93,3 +93,7 @@ rising_slopes (Straight m) r = (r, r)
 rising_slopes (FrontLoaded m₁ d m₂) r = (r.first, r.last)
 rising_slopes (Delayed d m) r = (r.rate, r.rate)
 rising_slopes None r = elim r [ ]
+
+-- numbers of 32 bits have an amount of 64
+pub amount_fits : (S : Curve) (t : ℕ) → first_slope S < 2 ^ 32 → last_slope S < 2 ^ 32 → t < 2 ^ 32 → amount S t < 2 ^ 64
+amount_fits S t h k l = omega (arith, amount_most 4294967295 S (omega arith) (omega arith) t)

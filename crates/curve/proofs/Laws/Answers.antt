@@ -2,7 +2,7 @@
 -- Assumes nothing.
 use Prim.Native.Nat.{ℕ, ◌≤◌, max}
 use mathlib.Core.Path.{◌≡◌, refl, sym, subst}
-use mathlib.Core.Bool.{Bool, true, false}
+use mathlib.Core.Bool.{Bool, true, false, not}
 use native.Mathlib.Nat.{le_antisymm}
 use native.Mathlib.Omega.{arith}
 use lib.Dec.{leb}
@@ -15,6 +15,15 @@ told_yes b {P} h e = subst (λ x. Exactly x P) e h
 
 pub told_no : (b : Bool) {P : Type 0} → Exactly b P → b ≡ false → P → ⊥
 told_no b {P} h e = subst (λ x. Exactly x P) e h
+
+-- the same where the code tests the negated answer
+pub untold_no : (b : Bool) {P : Type 0} → Exactly b P → not b ≡ true → P → ⊥
+untold_no true h e = let z : ◌≡◌ {A = ℕ} 0 1 = cc in absurd (omega arith)
+untold_no false h e = h
+
+pub untold_yes : (b : Bool) {P : Type 0} → Exactly b P → not b ≡ false → P
+untold_yes true h e = h
+untold_yes false h e = let z : ◌≡◌ {A = ℕ} 0 1 = cc in absurd (omega arith)
 
 -- an answer that says exactly whether P holds is one answer
 pub exactly_one : (a b : Bool) (P : Type 0) → Exactly a P → Exactly b P → a ≡ b

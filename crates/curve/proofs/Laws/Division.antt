@@ -62,7 +62,10 @@ front_past_least m₁ d m₂ y {t} past h =
           (λ l. omega (arith, h.least (u - d) (omega (arith, front_past m₁ d m₂ u l, k)))) (le_or_lt u d);
     }
 
--- a delayed curve: where parts are asked for they are on its line from the bend on
+-- a delayed curve: nothing is reached at once, and more is on its line from the bend on
+pub nothing_least : (d m : ℕ) → Least (Reaches (Delayed d m) 0) 0
+nothing_least d m = record { holds = omega arith; least = λ u k. omega arith }
+
 pub delayed_least : (d m y : ℕ) {t : ℕ} → 0 < y → Least (λ u. y ≤ m * u) t → Least (Reaches (Delayed d m) y) (d + t)
 unfolding amount
 delayed_least d m y {t} some h =

@@ -1,11 +1,13 @@
 -- One piece: the earliest tick at which it stands at an amount, and which of two pieces is lower.
 -- Assumes nothing.
 use Prim.Native.Nat.{ℕ, ◌+◌, ◌-◌, ◌*◌, ◌≤◌, ◌<◌, max}
-use mathlib.Core.Path.{◌≡◌, refl, subst}
+use mathlib.Core.Path.{◌≡◌, refl, subst, ap}
+use mathlib.Core.Bool.{Bool, true, false}
 use native.Mathlib.Nat.{le_trans}
 use native.Mathlib.Omega.{arith}
-use borrow.Author.Tests.{le-leb, lt-leb}
-use Rattle.curve.specs.Answers.{Least}
+use lib.Dec.{eqb}
+use borrow.Author.Tests.{le-leb, lt-leb, eqb-true, eqb-false}
+use Rattle.curve.specs.Answers.{Least, Exactly}
 use Rattle.curve.specs.Curves.{latest_bend, amount, in_parts, Rising}
 use Rattle.curve.specs.Pieces.{standing}
 use Rattle.curve.specs.Keeping.{Reaches, lower_of, Stands, BothStand, early}
@@ -57,6 +59,14 @@ pub one_least : (S : Curve) (k : Kept) (bytes : ℕ) {a : ℕ} → k.steep ≡ k
 one_least S k bytes e =
     least_iff (λ t s. record { steep = s; flat = subst (λ (p : Piece). Stands S p bytes t) e s }) (λ t r. r.steep)
 
+-- two pieces that start together are one piece just where as many bytes were sent before
+pub one_exactly : (p q : Piece) → p.start ≡ q.start → Exactly (eqb p.sent q.sent) (p ≡ q)
+one_exactly p q e = by (eqb p.sent q.sent) refl
+  where
+    by : (t : Bool) → eqb p.sent q.sent ≡ t → Exactly t (p ≡ q)
+    by true f = let sent = eqb-true p.sent q.sent f in λ i. record { start = e i; sent = sent i }
+    by false f = λ h. eqb-false p.sent q.sent f (ap (λ (x : Piece). x.sent) h)
+
 -- the code's comparison of two pieces is the definition's
 pub lower_new : (m : ℕ) (old new : Piece) → in_parts (new.sent - old.sent) ≤ m * (new.start - old.start) → new ≡ lower_of m old new
 unfolding lower_of
@@ -73,3 +83,7 @@ early_rising (Straight m) r = r
 early_rising (FrontLoaded m₁ d m₂) r = r
 early_rising (Delayed d m) r = r.rate
 early_rising None r = elim r [ ]
+
+-- and it is another curve
+pub delayed_not_early : (d m : ℕ) → early (Delayed d m) ≡ Delayed d m → ⊥
+delayed_not_early d m e = let z : ◌≡◌ {A = ℕ} 0 1 = cc in absurd (omega arith)

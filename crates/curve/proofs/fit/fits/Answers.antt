@@ -1,22 +1,15 @@
--- `curve::fit::fits` meets its contract: a bend at which the curves do not fit refutes fit; all bends and the last slopes are enough for it.
+-- `curve::fit::fits` meets its contract. Its invariant: the curves fit at each bend passed. A bend at which they do not refutes fit; all bends and
+-- the last slopes are enough for it.
 -- Assumes nothing.
-use Prim.Native.Nat.{◌≤◌}
-use borrow.Author.Rules.{rules}
-use borrow.Author.Tests.{tests}
-use Rattle.std.proofs.lemmas.Iterator.{cases_from_all, YieldsList-from_slice}
-use Rattle.curve.specs.Curves.{in_parts, bend_of}
-use Rattle.curve.specs.Fit.{total}
-use Rattle.curve.proofs.Laws.Fit.{ToldBends, told_all, told_one}
+use mathlib.Core.Path.{ap}
+use mathlib.Core.Bool.{not}
+use native.Mathlib.Omega.{arith}
+use Rattle.curve.proofs.Laws.Answers.{untold_no, exactly_iff}
+use Rattle.curve.proofs.Laws.Fit.{bends_enough, slopes_needed, fit_at, every_bend}
 use Rattle.curve.proofs.fit.fits.Goals as goal
-use Rattle.curve.proofs.fit.fits.Goals.{After-all}
 
-told : (c : After-all) → ToldBends (λ b. total c.args.curves b ≤ in_parts b) c.args.curves c.all.result
-told c =
-    cases_from_all _ _ _ (λ S. total c.args.curves (bend_of S) ≤ in_parts (bend_of S)) (λ S. total c.args.curves (bend_of S) ≤ in_parts (bend_of S) → ⊥) c.all.ensures.ran
-    (YieldsList-from_slice c.args.curves cc) (λ x q k. search (rules, tests)) (λ x q k. search (rules, tests))
+pub returns-then-not-fits_at : goal.returns-then-not-fits_at
+returns-then-not-fits_at c = λ fit. untold_no c.fits_at.result c.fits_at.ensures (ap not c.if-not-fits_at.true) (fit_at _ fit _)
 
-pub returns-then-all : goal.returns-then-all
-returns-then-all c = told_all _ _ _ (told c.before.before.before) c.if-all.true c.slopes_fit.ensures
-
-pub returns-else-all : goal.returns-else-all
-returns-else-all c = told_one _ _ (told c.before) c.if-all.false
+pub returns : goal.returns
+returns c = exactly_iff c.slopes_fit.result (bends_enough _ (every_bend _ _ (λ k l. c.loop-curve.invariant k (omega arith)))) (slopes_needed _) c.slopes_fit.ensures
