@@ -15,7 +15,9 @@ pub struct Output {
 }
 
 impl Output {
-    pub fn new() -> Self {
+    pub fn new() -> Self
+        ensures { result.used ≡ 0 }
+    {
         Output {
             bytes: [0; TURN],
             used: 0,

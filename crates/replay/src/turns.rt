@@ -1,5 +1,5 @@
 // Reads a calls file in turns, and replays its lines.
-ghost use Rattle.std.specs.Prelude.{◌≡◌, ◌-◌, ◌<◌, ◌≤◌};
+ghost use Rattle.std.specs.Prelude.{◌≡◌, ◌+◌, ◌-◌, ◌<◌, ◌≤◌};
 ghost use Rattle.console.specs.declared.TheConstants.{TURN};
 ghost use Rattle.replay.specs.Text.{KeptInFront, Finished};
 
@@ -23,7 +23,9 @@ struct Window {
 }
 
 impl Window {
-    fn new() -> Self {
+    fn new() -> Self
+        ensures { (result.from ≡ 0) × (result.end ≡ 0) }
+    {
         Window {
             text: [0; TURN],
             from: 0,
@@ -34,6 +36,7 @@ impl Window {
     // A line is replayed, which ends there.
     fn pass(&mut self, to: usize)
         requires { to < self.old.end }
+        ensures { (self.new.text ≡ self.old.text) × (self.new.from ≡ to + 1) × (self.new.end ≡ self.old.end) }
     {
         self.from = to + 1;
     }
@@ -42,6 +45,7 @@ impl Window {
     // Whether there is text then.
     fn refill(&mut self, rt: &impl Eprint, file: &mut impl Read, name: &[u8]) -> Result<bool, Stop>
         requires { self.old.end - self.old.from < TURN }
+        ensures { self.new.from ≡ 0 }
     {
         self.keep();
         let read = file.read(&mut self.text[self.end..]);
@@ -64,7 +68,7 @@ impl Window {
     // The end of a last line that has none.
     fn finish(&mut self)
         requires { self.old.end < TURN }
-        ensures { Finished self.old.text self.old.end self.new.text self.new.end }
+        ensures { (self.new.from ≡ self.old.from) × Finished self.old.text self.old.end self.new.text self.new.end }
     {
         if 0 < self.end {
             self.text[self.end] = b'\n';
@@ -99,7 +103,10 @@ pub fn replay(
             let call = &window.text[window.from..to];
             run = lines::replay(tree, &mut words, &mut lengths, call, &mut line, run);
             window.pass(to);
-            output.queue(rt, &line[..run.printed]);
+            // a line that says nothing prints nothing
+            if 0 < run.printed {
+                output.queue(rt, &line[..run.printed]);
+            }
         } else if window.text.len() <= window.end - window.from {
             run = lines::overlong(&mut line, run);
             output.queue(rt, &line[..run.printed]);
