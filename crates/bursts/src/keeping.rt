@@ -15,7 +15,10 @@ pub(crate) fn keep(kept: &mut [u8], count: usize, burst: &[u8])
 {
     let from = count.min(KEPT);
     let n = burst.len().min(KEPT - from);
-    kept[from..from + n].copy_from_slice(&burst[..n]);
+    // Stays: `copy_from_slice` would have the archive for C ask for `memmove`, and a host has to lend memcpy and memset alone (hfsc.h).
+    for i in 0..n {
+        kept[from + i] = burst[i];
+    }
 }
 
 // So many bytes more, counted up to 2^32.
