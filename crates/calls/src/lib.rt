@@ -47,15 +47,18 @@ fn call_in(text: &[u8]) -> Result<Option<Call>, LineError>
     ensures { result ≡ call_in text.now }
 {
     let name = word(text);
-    let rest = behind(text);
     if name.is_empty() {
         Ok(None)
     } else if is(name, b"start") {
-        Ok(Some(Call::Start { stamp: only(rest)? }))
+        Ok(Some(Call::Start {
+            stamp: only(behind(text))?,
+        }))
     } else if is(name, b"arrive") {
-        arrive(rest)
+        arrive(behind(text))
     } else if is(name, b"depart") {
-        Ok(Some(Call::Depart { stamp: only(rest)? }))
+        Ok(Some(Call::Depart {
+            stamp: only(behind(text))?,
+        }))
     } else {
         Err(LineError::NotACall)
     }

@@ -69,13 +69,12 @@ fn entry_in(text: &[u8]) -> Result<Option<Entry>, EntryError>
     ensures { result ≡ entry_in text.now }
 {
     let name = word(text);
-    let rest = behind(text);
     if name.is_empty() {
         Ok(None)
     } else if is(name, b"tree") {
-        Ok(Some(ended(Entry::Head, rest)?))
+        Ok(Some(ended(Entry::Head, behind(text))?))
     } else if is(name, b"class") {
-        class_in(rest)
+        class_in(behind(text))
     } else {
         Err(EntryError::NotAClass)
     }
@@ -189,7 +188,7 @@ pub fn read(text: &[u8]) -> Draft
     // Stays: split gives a line more after a last line feed, and split_inclusive leaves the line feeds in their lines.
     while at < text.len() {
         let end = line_end(text, at);
-        draft = draft.with_line(&text[at..end]);
+        draft.with_line(&text[at..end]);
         at = end + 1;
     }
     draft
@@ -211,29 +210,25 @@ impl Draft {
 
     // One line more. `tree` comes once, and first; then classes, in their numbers' order.
     #[tactic(auto, using(crate::proofs::Named::not_done, crate::proofs::Named::no_fault), unfolding(crate::specs::Texts::with_line))]
-    fn with_line(self, line: &[u8]) -> Draft
-        requires { self.lines + 1 < 2 ^ 64 }
-        ensures { result ≡ with_line self line.now }
+    fn with_line(&mut self, line: &[u8])
+        requires { self.old.lines + 1 < 2 ^ 64 }
+        ensures { self.new ≡ with_line self.old line.now }
     {
         if self.is_done() {
-            return self;
+            return;
         }
-        let next = Draft {
-            lines: self.lines + 1,
-            ..self
-        };
         let count = self.tree.count;
         match parse(line) {
-            Ok(None) => next,
-            Ok(Some(Entry::Head)) if !self.headed => Draft {
-                headed: true,
-                ..next
-            },
+            Ok(None) => self.lines += 1,
+            Ok(Some(Entry::Head)) if !self.headed => {
+                self.lines += 1;
+                self.headed = true;
+            }
             Ok(Some(Entry::ClassOf { .. })) if !self.headed => self.faulty(Wrong::TreeFirst),
-            Ok(Some(Entry::ClassOf { number, class })) if number == count => Draft {
-                tree: with_class(self.tree, class),
-                ..next
-            },
+            Ok(Some(Entry::ClassOf { number, class })) if number == count => {
+                self.lines += 1;
+                self.tree = with_class(self.tree, class);
+            }
             Ok(Some(Entry::ClassOf { .. })) => self.faulty(Wrong::NextClass { number: count }),
             Ok(Some(Entry::Head)) | Err(EntryError::NotAClass) => self.faulty(Wrong::NotAClass),
             Err(EntryError::TooLarge) => self.faulty(Wrong::TooLarge),
@@ -241,21 +236,20 @@ impl Draft {
     }
 
     // The next line is wrong.
-    fn faulty(self, wrong: Wrong) -> Draft
-        requires { self.lines + 1 < 2 ^ 64 }
-        ensures { result ≡ faulty self wrong }
+    fn faulty(&mut self, wrong: Wrong)
+        requires { self.old.lines + 1 < 2 ^ 64 }
+        ensures { self.new ≡ faulty self.old wrong }
     {
-        let line = self.lines + 1;
-        Draft {
-            lines: line,
-            fault: Some(Fault { line, wrong }),
-            ..self
-        }
+        self.lines += 1;
+        self.fault = Some(Fault {
+            line: self.lines,
+            wrong,
+        });
     }
 
     #[tactic(auto, unfolding(crate::specs::Texts::is_done))]
-    fn is_done(self) -> bool
-        ensures { result ≡ is_done self }
+    fn is_done(&self) -> bool
+        ensures { result ≡ is_done self.now }
     {
         self.fault.is_some() || MOST_CLASSES < self.tree.count
     }
