@@ -20,25 +20,25 @@ use Rattle.why.proofs.why.Goals as goal
 use Rattle.why.proofs.why.Goals.{After-leaves-lines}
 
 module _ (c : After-leaves-lines) {l : List ℕ} (h : History) (law : Lawful h) (shows : Shows c.args.words.now l h) where
+  in_time : c.tick.result ≡ Ok c.in_ok-now.now
+  in_time = search rules
+
   counted : c.leaves-lines.result ≡ line_count h.tree
   counted = c.leaves-lines.ensures h.tree h.calls (shown_told law shows)
 
   short : (s : List ℕ) → length s < numbers * c.leaves-lines.result → WhyRight h c.args.stamp (Err SmallBuffer) s s
   short s less =
-      too_short h law shows c.args.stamp c.tick.ensures s c.in_ok-now.now
-      c.in_ok-now.was (omega (arith, counted))
+      too_short h law shows c.args.stamp c.tick.ensures s c.in_ok-now.now in_time (omega (arith, counted))
 
   module _ (s : List ℕ) (room : numbers * c.leaves-lines.result ≤ length s) where
     ready : Fillable c.args.words.now h.tree h.calls c.in_ok-now.now s
     ready =
-        fillable h law shows c.args.stamp c.tick.ensures s c.in_ok-now.now
-        c.in_ok-now.was (omega (arith, counted))
+        fillable h law shows c.args.stamp c.tick.ensures s c.in_ok-now.now in_time (omega (arith, counted))
 
     done : (t : List ℕ) → Filled h.tree h.calls c.in_ok-now.now h.tree.count s t
         → WhyRight h c.args.stamp (Ok c.leaves-lines.result) s t
     done t f =
-        sheet_right h law shows c.args.stamp c.tick.ensures s c.in_ok-now.now
-        c.in_ok-now.was (omega (arith, counted)) c.leaves-lines.result t counted f
+        sheet_right h law shows c.args.stamp c.tick.ensures s c.in_ok-now.now in_time (omega (arith, counted)) c.leaves-lines.result t counted f
 
 pub tick-requires : goal.tick-requires
 tick-requires c = let p = c.requires.holds in (clock_shown p.lawful p.shows, stamp_shown p.lawful p.shows)
@@ -63,7 +63,8 @@ fill-requires c =
 pub returns-in_err-now : goal.returns-in_err-now
 returns-in_err-now c = λ l h law shows.
     let said : c.from_residual.result ≡ Err c.in_err-now.field-0.0 = search rules in
-    rw said (clock_refuses h law shows c.args.stamp c.tick.ensures c.args.sheet.now _ c.in_err-now.was)
+    let late : c.tick.result ≡ Err c.in_err-now.field-0.0 = search rules in
+    rw said (clock_refuses h law shows c.args.stamp c.tick.ensures c.args.sheet.now _ late)
 
 pub returns : goal.returns
 returns c = λ l h law shows.
