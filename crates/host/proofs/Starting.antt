@@ -38,7 +38,7 @@ module _ (file : List ℕ) (tree : Tree) (stamp : ℕ) where
   history_is (Ok _) w reads judged = ap (started tree stamp) (check_one tree w all_right judged (reads_judged file tree reads))
   history_is (Err fault) w reads judged = none_started tree stamp w reads.given
 
-  file_shows : (v w : Verdict) (m l : List ℕ) → ReadsAs file v tree → StartRight tree stamp w m l → Shows m l (started tree stamp v)
+  pub file_shows : (v w : Verdict) (m l : List ℕ) → ReadsAs file v tree → StartRight tree stamp w m l → Shows m l (started tree stamp v)
   file_shows v w m l reads right =
       subst (λ (h : History). Shows m l h) (right.starts.history ∙ history_is v w reads right.starts.judged) right.shows
 

@@ -5,9 +5,10 @@ use state::table::{CELLS, Lengths, PLACES, Words};
 use std::io;
 
 pub fn run(rt: &(impl Print + Eprint)) -> io::Result<()> {
+    // a start fills the arrays, whatever they held
     let mut host = Host {
-        words: [0; CELLS],
-        lengths: [0; PLACES],
+        words: [u64::MAX; CELLS],
+        lengths: [u16::MAX; PLACES],
         rt,
     };
     by_words(&mut host)?;

@@ -1,14 +1,19 @@
 -- The mark and the order that it shows.
 -- Assumes nothing.
 use Prim.Native.Nat.{ℕ}
-use mathlib.Core.Path.{◌≡◌, refl}
+use mathlib.Core.Path.{◌≡◌, refl, ◌∙◌, ap}
 use mathlib.Core.Bool.{Bool, true, false}
 use mathlib.Core.List.{List}
 use mathlib.Core.Logic.{◌⊎◌, inl, inr}
 use lib.Dec.{eqb}
 use borrow.Author.Tests.{eqb-true, eqb-false}
 use Rattle.file.specs.Format.{word_at, word_of, mark, Marked, order_of, order_if}
+use Rattle.file.specs.declared.Order.{Order}
 use Rattle.file.specs.declared.Order.TheVariants.{Big, Little}
+
+-- a word read in the file's order
+pub in_order : (file : List ℕ) (order : Order) (at w : ℕ) → order ≡ order_of file → w ≡ word_at order file at → w ≡ word_of file at
+in_order file order at w own is = is ∙ ap (λ (o : Order). word_at o file at) own
 
 module _ (file : List ℕ) where
   marked_if : (b : Bool) → word_at (order_if b) file 0 ≡ mark → Marked Big file ⊎ Marked Little file
